@@ -1,0 +1,69 @@
+-- Answers: the number that a refusal has, the values that an answer tells, and what an action gives back. "Refusals by number".
+-- Assumes nothing.
+use mathlib.Core.List.{List, [], _∷_}
+use Prim.Native.Nat.{ℕ}
+use Rattle.ring.specs.declared.state.Refusal.{Refusal}
+use Rattle.ring.specs.declared.state.Refusal.the-variants.{Shape, Depth, Nobody, Worn, SetUp}
+use Rattle.ring.specs.declared.state.Answer.{Answer}
+use Rattle.ring.specs.declared.state.Answer.the-variants.{Accepted, Begun, Reserved, Looked, Dropped, Marked, Shared, Retry, Promoted, Standing, Cleared, Pushed, Passed, Filled, Committed, Pending, Event, Empty, Found, Busy, Prepared, Swapped, Missed, Refused}
+use Rattle.ring.specs.declared.state.Ring.{Ring}
+use Rattle.ring.specs.declared.state.Step.{Step}
+
+-- 1 SHAPE, 2 DEPTH, 3 NOBODY, 4 WORN, 5 SETUP
+abbrev pub numberOf : Refusal → ℕ
+numberOf Shape = 1
+numberOf Depth = 2
+numberOf Nobody = 3
+numberOf Worn = 4
+numberOf SetUp = 5
+
+-- what an answer tells: the number of a refusal, 0 where nothing is refused, and the values in the answer's brackets, in their order
+pub record Told : Type 0 where
+  pub refusal : ℕ
+  pub values : List ℕ
+
+abbrev pub tells : List ℕ → Told
+tells values = record { refusal = 0; values = values }
+
+abbrev pub told : Answer → Told
+told Accepted = tells []
+told (Begun depth) = tells (depth ∷ [])
+told (Reserved n) = tells (n .0 ∷ [])
+told Looked = tells []
+told Dropped = tells []
+told Marked = tells []
+told Shared = tells []
+told Retry = tells []
+told Promoted = tells []
+told Standing = tells []
+told Cleared = tells []
+told Pushed = tells []
+told Passed = tells []
+told Filled = tells []
+told (Committed count) = tells (count ∷ [])
+told Pending = tells []
+told (Event n v) = tells (n .0 ∷ v ∷ [])
+told Empty = tells []
+told Found = tells []
+told Busy = tells []
+told Prepared = tells []
+told Swapped = tells []
+told Missed = tells []
+told (Refused why) = record { refusal = numberOf why; values = [] }
+
+-- What an action gives back: "a ring ... with an answer", and what the answer tells.
+pub record Outcome : Type 0 where
+  pub ring : Ring
+  pub answer : Answer
+  pub tells : Told
+
+abbrev pub gives : Answer → Ring → Outcome
+gives answer r = record { ring = r; answer = answer; tells = told answer }
+
+-- the outcome that a step of the code is
+abbrev pub outcome : Step → Outcome
+outcome s = gives (s .answer) (s .ring)
+
+-- "Comes back: the same state"
+abbrev pub refused : Refusal → Ring → Outcome
+refused why r = gives (Refused why) r

@@ -1,0 +1,59 @@
+-- The limits of a ring, the sizes of the plain ring, the modes and the flags: each number under one name.
+-- Assumes nothing.
+use Prim.Native.Nat.{ℕ}
+
+-- "N ring pages, 2 to 16, plus one reader page"
+abbrev pub leastPages : ℕ
+leastPages = 2
+
+abbrev pub mostPages : ℕ
+mostPages = 16
+
+-- "S slots in each page, 1 to 16"
+abbrev pub leastSlots : ℕ
+leastSlots = 1
+
+abbrev pub mostSlots : ℕ
+mostSlots = 16
+
+-- room for the most pages, the reader page with them; "The ring has room for 272 slots"
+abbrev pub pageRoom : ℕ
+pageRoom = 17
+
+abbrev pub slotRoom : ℕ
+slotRoom = 272
+
+-- "The stack is four writer records, handed over whole, and a depth."
+abbrev pub mostDepth : ℕ
+mostDepth = 4
+
+-- "every count, and every slot's number, at most 4,294,967,295"
+abbrev pub mostCount : ℕ
+mostCount = 4294967295
+
+-- "Mode: 0 overwrite, 1 stop"
+abbrev pub overwrite : ℕ
+overwrite = 0
+
+abbrev pub stop : ℕ
+stop = 1
+
+-- "NORMAL 0, HEADER 1, UPDATE 2"
+abbrev pub normal : ℕ
+normal = 0
+
+abbrev pub header : ℕ
+header = 1
+
+abbrev pub update : ℕ
+update = 2
+
+-- "The plain ring is 8 pages of 16 slots in overwrite mode."
+abbrev pub plainPages : ℕ
+plainPages = 8
+
+abbrev pub plainSlots : ℕ
+plainSlots = 16
+
+abbrev pub plainMode : ℕ
+plainMode = overwrite

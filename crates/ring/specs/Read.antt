@@ -1,0 +1,95 @@
+-- Read: which rule applies to the reader, what each rule does, and the action. "Read".
+-- The first part reads only the pieces that decide; the second changes the ring.
+-- Assumes nothing.
+use mathlib.Core.Bool.{Bool, cond}
+use mathlib.Core.List.{List}
+use Prim.Native.Nat.{ℕ, _+_}
+use lib.Dec.{ltb}
+use Rattle.ring.specs.Limits.{normal, header}
+use Rattle.ring.specs.State.{reading, wordAt, usedAt, numberAt, valueAt, withReaderPage, withPosition, withHanded, withReaderPhase, setWord, setUsed}
+use Rattle.ring.specs.Answers.{Outcome, gives, refused}
+use Rattle.ring.specs.Words.{pageIn, wordOf, samePage, links, findHeader}
+use Rattle.ring.specs.Shape.{inShape}
+use Rattle.ring.specs.declared.state.PageNo.{PageNo}
+use Rattle.ring.specs.declared.state.Size.{Size}
+use Rattle.ring.specs.declared.state.Places.{Places}
+use Rattle.ring.specs.declared.state.ReaderPhase.{ReaderPhase}
+use Rattle.ring.specs.declared.state.ReaderPhase.the-variants as phase
+use Rattle.ring.specs.declared.state.Refusal.the-variants.{Shape}
+use Rattle.ring.specs.declared.state.Answer.the-variants as answer
+use Rattle.ring.specs.declared.state.Ring.{Ring}
+use Rattle.ring.specs.declared.moves.Header.{Header}
+use Rattle.ring.specs.declared.moves.Header.the-variants.{At, Nowhere}
+use Rattle.ring.specs.declared.moves.Fetch.{Fetch}
+use Rattle.ring.specs.declared.moves.Fetch.the-variants.{Event, Empty, Busy, Find, Prepare, Swap, Miss}
+
+-- ---- which rule applies
+
+-- "the commit page is the reader page"
+abbrev pub onCommitPage : Places → Bool
+onCommitPage places = samePage (places .commit) (places .reader)
+
+-- "the limit is the commit index if the commit page is the reader page, else the reader page's used"
+abbrev pub readLimit : Places → List ℕ → ℕ
+readLimit places used = cond (onCommitPage places) (places .index) (usedAt used (places .reader))
+
+-- "the lowest page p other than the reader page whose word is HEADER, h its page: FOUND (p, h) ... No such page: Busy."
+abbrev pub findBy : Header → Fetch
+findBy (At p h) = Find p h
+findBy Nowhere = Busy
+
+-- "IDLE: ... Position below limit: ... Else, commit page is reader page: Empty. Else, the lowest page"
+abbrev pub planIdle : Size → Places → List ℕ → List ℕ → Fetch
+planIdle size places words used =
+    cond (ltb (places .position) (readLimit places used))
+    (Event (places .position))
+    (cond (onCommitPage places)
+    Empty
+    (findBy (findHeader words (size .pages) (places .reader))))
+
+-- "READY: if p's word is h HEADER ... Else answer Missed."
+abbrev pub planReady : PageNo → PageNo → List ℕ → Fetch
+planReady p h words = cond (links words p h header) (Swap p h) Miss
+
+abbrev pub planReader : ReaderPhase → Size → Places → List ℕ → List ℕ → Fetch
+planReader phase.Idle size places words used = planIdle size places words used
+planReader (phase.Found p h) size places words used = Prepare p h
+planReader (phase.Ready p h) size places words used = planReady p h words
+
+abbrev pub planRead : Ring → Fetch
+planRead r = planReader (r .reader .phase) (r .size) (r .places) (r .words) (r .used)
+
+-- ---- what each rule does
+
+-- "position + 1, handed + 1"
+abbrev pub handedOut : ℕ → Ring → Ring
+handedOut slot r = withPosition (slot + 1) (withHanded (r .counts .handed + 1) r)
+
+-- "FOUND: the reader page's word becomes (page in h's word) HEADER. READY"
+abbrev pub prepared : PageNo → PageNo → Ring → Ring
+prepared p h r =
+    withReaderPhase (phase.Ready p h)
+    (setWord (r .places .reader) (wordOf (pageIn (wordAt (r .words) h)) header) r)
+
+-- "it becomes (reader page) NORMAL; the old reader page's used becomes 0; h is the reader page; position 0. ... IDLE."
+abbrev pub swapped : PageNo → PageNo → Ring → Ring
+swapped p h r =
+    withReaderPhase phase.Idle
+    (withPosition 0
+    (withReaderPage h (setUsed (r .places .reader) 0 (setWord p (wordOf (r .places .reader) normal) r))))
+
+abbrev pub fetched : Fetch → Ring → Outcome
+fetched (Event slot) r =
+    gives
+    (answer.Event (reading (numberAt r (r .places .reader) slot)) (valueAt r (r .places .reader) slot))
+    (handedOut slot r)
+fetched Empty r = gives answer.Empty r
+fetched Busy r = gives answer.Busy r
+fetched (Find p h) r = gives answer.Found (withReaderPhase (phase.Found p h) r)
+fetched (Prepare p h) r = gives answer.Prepared (prepared p h r)
+fetched (Swap p h) r = gives answer.Swapped (swapped p h r)
+fetched Miss r = gives answer.Missed (withReaderPhase phase.Idle r)
+
+-- ---- the action: "1 SHAPE" before all; a Read has no other refusal
+abbrev pub readRule : Ring → Outcome
+readRule r = cond (inShape r) (fetched (planRead r) r) (refused Shape r)

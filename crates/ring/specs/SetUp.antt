@@ -1,0 +1,45 @@
+-- Set-up: a fresh ring, the plain ring, and what `fresh` gives back.
+-- Assumes nothing.
+use mathlib.Core.Bool.{cond}
+use mathlib.Core.List.{List}
+use Prim.Native.Nat.{ℕ, _+_}
+use lib.Dec.{eqb, ltb}
+use Rattle.ring.specs.Limits.{pageRoom, normal, header, plainPages, plainSlots, plainMode}
+use Rattle.ring.specs.Lists.{tabulate}
+use Rattle.ring.specs.State.{page, sizeOf, withWords, withReaderPage, blank}
+use Rattle.ring.specs.Answers.{Outcome, gives, refused}
+use Rattle.ring.specs.Words.{wordOf}
+use Rattle.ring.specs.Shape.{sizeFits}
+use Rattle.ring.specs.declared.state.Size.{Size}
+use Rattle.ring.specs.declared.state.Refusal.the-variants.{SetUp}
+use Rattle.ring.specs.declared.state.Answer.the-variants.{Accepted}
+use Rattle.ring.specs.declared.state.Ring.{Ring}
+
+-- "page i links to i+1, page N−1 to 0", "Reader page N links to 0"; pages above N have 0 too
+abbrev pub freshNext : ℕ → ℕ → ℕ
+freshNext n i = cond (ltb (i + 1) n) (i + 1) 0
+
+-- "page N−1 to 0 with HEADER, other words NORMAL"
+abbrev pub freshFlag : ℕ → ℕ → ℕ
+freshFlag n i = cond (eqb (i + 1) n) header normal
+
+abbrev pub freshWord : ℕ → ℕ → ℕ
+freshWord n i = wordOf (page (freshNext n i)) (freshFlag n i)
+
+unfoldable pub freshWords : ℕ → List ℕ
+freshWords n = tabulate pageRoom (freshWord n)
+
+-- "Tail and commit page 0; all else 0; reader IDLE." The reader page is page N.
+abbrev pub freshRing : Size → Ring
+freshRing size = withWords (freshWords (size .pages)) (withReaderPage (page (size .pages)) (blank size))
+
+-- "The plain ring is 8 pages of 16 slots in overwrite mode."
+abbrev pub plainRing : Ring
+plainRing = freshRing (sizeOf plainPages plainSlots plainMode)
+
+-- "5 SETUP: fresh with N, S or mode out of range: the plain ring"
+abbrev pub freshRule : ℕ → ℕ → ℕ → Outcome
+freshRule pages slots mode =
+    cond (sizeFits (sizeOf pages slots mode))
+    (gives Accepted (freshRing (sizeOf pages slots mode)))
+    (refused SetUp plainRing)

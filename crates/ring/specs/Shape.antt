@@ -1,0 +1,155 @@
+-- In shape: a definition for each clause of the sentence "In shape means", then all of them. "Nothing more is tested."
+-- Assumes nothing.
+use mathlib.Core.Bool.{Bool, true, false, _&&_, not}
+use mathlib.Core.List.{List, [], _∷_}
+use Prim.Native.Nat.{ℕ, _+_}
+use lib.Dec.{eqb, leb, ltb}
+use Rattle.ring.specs.Limits.{leastPages, mostPages, leastSlots, mostSlots, mostDepth, mostCount, stop}
+use Rattle.ring.specs.Lists.{every, all, allBelow}
+use Rattle.ring.specs.State.{page, wordAt, usedAt, recordAt}
+use Rattle.ring.specs.Words.{pageIn, flagIn}
+use Rattle.ring.specs.declared.state.PageNo.{PageNo}
+use Rattle.ring.specs.declared.state.Size.{Size}
+use Rattle.ring.specs.declared.state.Places.{Places}
+use Rattle.ring.specs.declared.state.Counts.{Counts}
+use Rattle.ring.specs.declared.state.WriterPhase.{WriterPhase}
+use Rattle.ring.specs.declared.state.WriterPhase.the-variants.{Want, Mark, Promote, Clear, Push, Held, Filled}
+use Rattle.ring.specs.declared.state.Writer.{Writer}
+use Rattle.ring.specs.declared.state.ReaderPhase.{ReaderPhase}
+use Rattle.ring.specs.declared.state.ReaderPhase.the-variants.{Idle, Found, Ready}
+use Rattle.ring.specs.declared.state.Reader.{Reader}
+use Rattle.ring.specs.declared.state.Ring.{Ring}
+
+-- "N, S and mode as above"
+abbrev pub sizeTests : Size → List Bool
+sizeTests s =
+    leb leastPages (s .pages)
+    ∷ leb (s .pages) mostPages
+    ∷ leb leastSlots (s .slots)
+    ∷ leb (s .slots) mostSlots
+    ∷ leb (s .mode) stop
+    ∷ []
+
+abbrev pub sizeFits : Size → Bool
+sizeFits s = every (sizeTests s)
+
+-- "every page named by the ring ... is at most N", "the commit index and the read position at most S"
+abbrev pub placeTests : Places → Size → List Bool
+placeTests p s =
+    leb (p .reader .0) (s .pages)
+    ∷ leb (p .tail .0) (s .pages)
+    ∷ leb (p .commit .0) (s .pages)
+    ∷ leb (p .index) (s .slots)
+    ∷ leb (p .position) (s .slots)
+    ∷ []
+
+abbrev pub placesFit : Places → Size → Bool
+placesFit p s = every (placeTests p s)
+
+-- "every count ... at most 4,294,967,295"
+abbrev pub smallTests : Counts → List Bool
+smallTests c =
+    leb (c .begun) mostCount
+    ∷ leb (c .taken) mostCount
+    ∷ leb (c .committed) mostCount
+    ∷ leb (c .handed) mostCount
+    ∷ leb (c .overwritten) mostCount
+    ∷ leb (c .dropped) mostCount
+    ∷ []
+
+abbrev pub countsSmall : Counts → Bool
+countsSmall c = every (smallTests c)
+
+-- "handed + overwritten ≤ committed ≤ taken; taken + dropped ≤ begun"
+abbrev pub agreeTests : Counts → List Bool
+agreeTests c =
+    leb (c .handed + c .overwritten) (c .committed)
+    ∷ leb (c .committed) (c .taken)
+    ∷ leb (c .taken + c .dropped) (c .begun)
+    ∷ []
+
+abbrev pub countsAgree : Counts → Bool
+countsAgree c = every (agreeTests c)
+
+abbrev pub countsFit : Counts → Bool
+countsFit c = countsSmall c && countsAgree c
+
+-- two pages, each at most n
+abbrev pub pageTests : PageNo → PageNo → ℕ → List Bool
+pageTests p q n = leb (p .0) n ∷ leb (q .0) n ∷ []
+
+abbrev pub pagesFit : PageNo → PageNo → ℕ → Bool
+pagesFit p q n = every (pageTests p q n)
+
+-- "a held slot of a record below the depth below S"
+abbrev pub heldTests : PageNo → ℕ → Size → List Bool
+heldTests p slot s = leb (p .0) (s .pages) ∷ ltb slot (s .slots) ∷ []
+
+abbrev pub heldFits : PageNo → ℕ → Size → Bool
+heldFits p slot s = every (heldTests p slot s)
+
+-- "every page named ... by a record below the depth"
+abbrev pub writerFits : WriterPhase → Size → Bool
+writerFits Want s = true
+writerFits (Mark t n) s = pagesFit t n (s .pages)
+writerFits (Promote t n own) s = pagesFit t n (s .pages)
+writerFits (Clear t n) s = pagesFit t n (s .pages)
+writerFits (Push t n) s = pagesFit t n (s .pages)
+writerFits (Held p slot) s = heldFits p slot s
+writerFits Filled s = true
+
+-- "every page named ... by the reader's phase"
+abbrev pub readerFits : ReaderPhase → Size → Bool
+readerFits Idle s = true
+readerFits (Found p h) s = pagesFit p h (s .pages)
+readerFits (Ready p h) s = pagesFit p h (s .pages)
+
+abbrev pub recordFits : List Writer → Size → ℕ → Bool
+recordFits stack s i = writerFits (recordAt stack i .phase) s
+
+-- "depth at most 4"
+abbrev pub stackFits : List Writer → ℕ → Size → Bool
+stackFits stack depth s = leb depth mostDepth && allBelow depth (recordFits stack s)
+
+-- "every page named ... by a word of pages 0..N", "no flag 3 in those words"
+abbrev pub wordFits : List ℕ → ℕ → ℕ → Bool
+wordFits words n p = leb (pageIn (wordAt words (page p)) .0) n && not (eqb (flagIn (wordAt words (page p))) 3)
+
+abbrev pub wordsFit : List ℕ → ℕ → Bool
+wordsFit words n = allBelow (n + 1) (wordFits words n)
+
+-- "the used of pages 0..N ... at most S"
+abbrev pub usedFits : List ℕ → ℕ → ℕ → Bool
+usedFits used slots p = leb (usedAt used (page p)) slots
+
+abbrev pub usedFit : List ℕ → ℕ → ℕ → Bool
+usedFit used n slots = allBelow (n + 1) (usedFits used slots)
+
+-- "every slot's number, at most 4,294,967,295": every slot that the ring has room for
+abbrev pub numberFits : ℕ → Bool
+numberFits number = leb number mostCount
+
+unfoldable pub numbersFit : List ℕ → Bool
+numbersFit numbers = all numberFits numbers
+
+-- all of it but the slots' numbers, of the ring's pieces
+abbrev pub pieceTests : Size → Places → Counts → Reader → List Writer → ℕ → List ℕ → List ℕ → List Bool
+pieceTests size places counts reader stack depth words used =
+    sizeFits size
+    ∷ placesFit places size
+    ∷ countsFit counts
+    ∷ readerFits (reader .phase) size
+    ∷ stackFits stack depth size
+    ∷ wordsFit words (size .pages)
+    ∷ usedFit used (size .pages) (size .slots)
+    ∷ []
+
+unfoldable pub piecesFit : Size → Places → Counts → Reader → List Writer → ℕ → List ℕ → List ℕ → Bool
+piecesFit size places counts reader stack depth words used =
+    every (pieceTests size places counts reader stack depth words used)
+
+-- "In shape"
+unfoldable pub inShape : Ring → Bool
+inShape r =
+    piecesFit (r .size) (r .places) (r .counts) (r .reader) (r .stack) (r .depth) (r .words) (r .used)
+    && numbersFit (r .numbers)

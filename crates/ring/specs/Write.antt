@@ -1,0 +1,163 @@
+-- Write: which rule applies to the top record, what each rule does, and the action. "Begin and Write".
+-- The first part reads only the pieces that decide; the second changes the ring.
+-- Assumes nothing.
+use mathlib.Core.Bool.{Bool, true, false, cond, _&&_, _||_}
+use mathlib.Core.List.{List}
+use Prim.Native.Nat.{ℕ, _+_}
+use lib.Dec.{eqb, ltb}
+use Rattle.ring.specs.Limits.{stop, normal, header, update}
+use Rattle.ring.specs.State.{reading, wordAt, usedAt, top, withTail, withCommitPage, withCommitIndex, withTaken, withCommitted, withOverwritten, withDropped, setWord, setUsed, setNumber, setValue, setPhase, pop}
+use Rattle.ring.specs.Answers.{Outcome, gives, refused}
+use Rattle.ring.specs.Words.{pageIn, flagIn, wordOf, samePage, links, findHeader}
+use Rattle.ring.specs.Shape.{inShape}
+use Rattle.ring.specs.declared.state.PageNo.{PageNo}
+use Rattle.ring.specs.declared.state.Size.{Size}
+use Rattle.ring.specs.declared.state.Places.{Places}
+use Rattle.ring.specs.declared.state.WriterPhase.{WriterPhase}
+use Rattle.ring.specs.declared.state.WriterPhase.the-variants as phase
+use Rattle.ring.specs.declared.state.Refusal.the-variants.{Shape, Nobody}
+use Rattle.ring.specs.declared.state.Answer.the-variants as answer
+use Rattle.ring.specs.declared.state.Ring.{Ring}
+use Rattle.ring.specs.declared.moves.Header.{Header}
+use Rattle.ring.specs.declared.moves.Header.the-variants.{At, Nowhere}
+use Rattle.ring.specs.declared.moves.Move.{Move}
+use Rattle.ring.specs.declared.moves.Move.the-variants.{Become, Reserve, Drop, Mark, Promote, Clear, Push, Fill, Pend, Commit}
+
+-- ---- which rule applies
+
+-- "WANT, t full: n is the page in t's word. First that applies"; w is t's word. The cases are a to f, in order:
+-- a. t is the reader page: PUSH (t, n).
+-- b. n is the commit page: drop.
+-- c. flag HEADER and the commit page is the reader page: drop.
+-- d. flag HEADER, stop mode: drop.
+-- e. flag HEADER or UPDATE: MARK (t, n).
+-- f. flag NORMAL: PUSH (t, n).
+abbrev pub planFull : Size → Places → ℕ → Move
+planFull size places w =
+    cond (samePage (places .tail) (places .reader))
+    (Become (phase.Push (places .tail) (pageIn w)) answer.Looked)
+    (cond (samePage (pageIn w) (places .commit))
+    Drop
+    (cond (eqb (flagIn w) header && samePage (places .commit) (places .reader))
+    Drop
+    (cond (eqb (flagIn w) header && eqb (size .mode) stop)
+    Drop
+    (cond (eqb (flagIn w) header || eqb (flagIn w) update)
+    (Become (phase.Mark (places .tail) (pageIn w)) answer.Looked)
+    (Become (phase.Push (places .tail) (pageIn w)) answer.Looked)))))
+
+-- "WANT, tail page t with used < S": the slot is used
+abbrev pub planWant : Size → Places → List ℕ → List ℕ → Move
+planWant size places words used =
+    cond (ltb (usedAt used (places .tail)) (size .slots))
+    (Reserve (places .tail) (usedAt used (places .tail)))
+    (planFull size places (wordAt words (places .tail)))
+
+-- "MARK: if t's word is n HEADER ... If it is n UPDATE: PROMOTE (t, n, not own). Answer Shared. Otherwise WANT, answer Retry."
+abbrev pub planMark : PageNo → PageNo → List ℕ → Move
+planMark t n words =
+    cond (links words t n header)
+    (Mark t n)
+    (cond (links words t n update)
+    (Become (phase.Promote t n false) answer.Shared)
+    (Become phase.Want answer.Retry))
+
+-- "Then CLEAR if own, else PUSH."
+abbrev pub afterPromote : PageNo → PageNo → Bool → WriterPhase
+afterPromote t n true = phase.Clear t n
+afterPromote t n false = phase.Push t n
+
+-- "PROMOTE: if no page other than the reader page has a HEADER word ... Else nothing; answer Standing."
+abbrev pub promoteBy : Header → PageNo → WriterPhase → Move
+promoteBy (At p h) n next = Become next answer.Standing
+promoteBy Nowhere n next = Promote n next
+
+abbrev pub planPromote : Size → Places → PageNo → PageNo → Bool → List ℕ → Move
+planPromote size places t n own words =
+    promoteBy (findHeader words (size .pages) (places .reader)) n (afterPromote t n own)
+
+-- "CLEAR: t's word, if n UPDATE, becomes n NORMAL. Answer Cleared; PUSH."
+abbrev pub planClear : PageNo → PageNo → List ℕ → Move
+planClear t n words = cond (links words t n update) (Clear t n) (Become (phase.Push t n) answer.Cleared)
+
+-- "PUSH: if the tail page is t, it becomes n ... else answer Passed. Then WANT."
+abbrev pub planPush : Places → PageNo → PageNo → Move
+planPush places t n = cond (samePage (places .tail) t) (Push n) (Become phase.Want answer.Passed)
+
+-- "FILLED: record popped. At depth 1 before the pop ... Deeper: answer Pending."
+abbrev pub planFilled : ℕ → Move
+planFilled depth = cond (eqb depth 1) Commit Pend
+
+-- "Write moves the top record by one step": by the record's phase
+abbrev pub planPhase : WriterPhase → Size → Places → ℕ → List ℕ → List ℕ → Move
+planPhase phase.Want size places depth words used = planWant size places words used
+planPhase (phase.Mark t n) size places depth words used = planMark t n words
+planPhase (phase.Promote t n own) size places depth words used = planPromote size places t n own words
+planPhase (phase.Clear t n) size places depth words used = planClear t n words
+planPhase (phase.Push t n) size places depth words used = planPush places t n
+planPhase (phase.Held p slot) size places depth words used = Fill p slot
+planPhase phase.Filled size places depth words used = planFilled depth
+
+abbrev pub planWrite : Ring → Move
+planWrite r = planPhase (top r .phase) (r .size) (r .places) (r .depth) (r .words) (r .used)
+
+-- ---- what each rule does
+
+-- "slot used gets the number taken; taken + 1, used + 1; phase HELD (t, slot). ... The slot's old value stays."
+abbrev pub reserved : PageNo → ℕ → Ring → Ring
+reserved t slot r =
+    withTaken (r .counts .taken + 1)
+    (setUsed t (slot + 1) (setNumber t slot (r .counts .taken) (setPhase (phase.Held t slot) r)))
+
+-- "Dropped: dropped + 1, record popped, nothing else."
+abbrev pub dropped : Ring → Ring
+dropped r = withDropped (r .counts .dropped + 1) (pop r)
+
+-- "it becomes n UPDATE, overwritten grows by n's used, n's used becomes 0, all in one step; PROMOTE (t, n, own)."
+abbrev pub marked : PageNo → PageNo → Ring → Ring
+marked t n r =
+    withOverwritten (r .counts .overwritten + usedAt (r .used) n)
+    (setUsed n 0 (setWord t (wordOf n update) (setPhase (phase.Promote t n true) r)))
+
+-- "n's word becomes HEADER, same page"
+abbrev pub promoted : PageNo → WriterPhase → Ring → Ring
+promoted n next r = setWord n (wordOf (pageIn (wordAt (r .words) n)) header) (setPhase next r)
+
+-- "t's word ... becomes n NORMAL ...; PUSH."
+abbrev pub cleared : PageNo → PageNo → Ring → Ring
+cleared t n r = setWord t (wordOf n normal) (setPhase (phase.Push t n) r)
+
+-- "the tail page ... becomes n ... Then WANT."
+abbrev pub pushed : PageNo → Ring → Ring
+pushed n r = withTail n (setPhase phase.Want r)
+
+-- "HELD: the value goes into the slot; phase FILLED."
+abbrev pub filled : PageNo → ℕ → Ring → Ring
+filled p slot r = setValue p slot (top r .value) (setPhase phase.Filled r)
+
+-- "the commit page becomes the tail page, the commit index that page's used, committed becomes taken"
+abbrev pub committed : Ring → Ring
+committed r =
+    withCommitPage (r .places .tail)
+    (withCommitIndex (usedAt (r .used) (r .places .tail)) (withCommitted (r .counts .taken) (pop r)))
+
+abbrev pub moved : Move → Ring → Outcome
+moved (Become next a) r = gives a (setPhase next r)
+moved (Reserve t slot) r = gives (answer.Reserved (reading (r .counts .taken))) (reserved t slot r)
+moved Drop r = gives answer.Dropped (dropped r)
+moved (Mark t n) r = gives answer.Marked (marked t n r)
+moved (Promote n next) r = gives answer.Promoted (promoted n next r)
+moved (Clear t n) r = gives answer.Cleared (cleared t n r)
+moved (Push n) r = gives answer.Pushed (pushed n r)
+moved (Fill p slot) r = gives answer.Filled (filled p slot r)
+moved Pend r = gives answer.Pending (pop r)
+moved Commit r = gives (answer.Committed (r .counts .taken)) (committed r)
+
+-- ---- the action: "1 SHAPE" before all, "3 NOBODY: Write at depth 0"
+abbrev pub writeRule : Ring → Outcome
+writeRule r =
+    cond (inShape r)
+    (cond (eqb (r .depth) 0)
+    (refused Nobody r)
+    (moved (planWrite r) r))
+    (refused Shape r)

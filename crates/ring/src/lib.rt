@@ -1,0 +1,5 @@
+// A ring of readings for climate loggers, as a machine of single steps. Each action takes the ring by value and gives it back with an
+// answer; nothing is kept elsewhere. The rules are definitions in specs/, and each function's contract is an equation with one of them.
+pub mod state; // the ring and its parts
+pub mod moves; // what a Write or a Read decides before it stores
+pub mod words; // link words, split and joined

@@ -1,0 +1,47 @@
+// What a Write or a Read decides from the pieces of the ring, before anything is stored.
+use crate::state::Answer;
+use crate::state::PageNo;
+use crate::state::WriterPhase;
+
+// The lowest page p other than the reader page whose word is HEADER, with the page h in that word.
+pub enum Header {
+    // p, h
+    At(PageNo, PageNo),
+    Nowhere,
+}
+
+// What a Write does.
+pub enum Move {
+    // only the record's phase changes
+    Become(WriterPhase, Answer),
+    // the page and the slot that the reading gets
+    Reserve(PageNo, u32),
+    Drop,
+    // t, n: t's word gets the update mark, and page n is taken
+    Mark(PageNo, PageNo),
+    // n, whose word becomes HEADER, and the record's next phase
+    Promote(PageNo, WriterPhase),
+    // t, n: t's word becomes n NORMAL
+    Clear(PageNo, PageNo),
+    // the new tail page
+    Push(PageNo),
+    // the page and the slot that the value goes into
+    Fill(PageNo, u32),
+    Pend,
+    Commit,
+}
+
+// What a Read does.
+pub enum Fetch {
+    // the slot of the reader page that is handed out
+    Event(u32),
+    Empty,
+    Busy,
+    // p, h
+    Find(PageNo, PageNo),
+    // p, h
+    Prepare(PageNo, PageNo),
+    // p, h
+    Swap(PageNo, PageNo),
+    Miss,
+}
