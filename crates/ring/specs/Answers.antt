@@ -63,7 +63,3 @@ gives answer r = record { ring = r; answer = answer; tells = told answer }
 -- the outcome that a step of the code is
 abbrev pub outcome : Step → Outcome
 outcome s = gives (s .answer) (s .ring)
-
--- "Comes back: the same state"
-abbrev pub refused : Refusal → Ring → Outcome
-refused why r = gives (Refused why) r

@@ -3,6 +3,7 @@ pub mod Limits
 pub mod Lists
 pub mod State
 pub mod Answers
+pub mod Refusals
 pub mod Words
 pub mod Shape
 pub mod SetUp
@@ -11,3 +12,4 @@ pub mod Write
 pub mod Read
 pub mod Receipt
 pub mod Act
+pub mod Cases

@@ -7,7 +7,8 @@ use Prim.Native.Nat.{ℕ, _+_}
 use lib.Dec.{ltb}
 use Rattle.ring.specs.Limits.{normal, header}
 use Rattle.ring.specs.State.{reading, wordAt, usedAt, numberAt, valueAt, withReaderPage, withPosition, withHanded, withReaderPhase, setWord, setUsed}
-use Rattle.ring.specs.Answers.{Outcome, gives, refused}
+use Rattle.ring.specs.Answers.{Outcome, gives}
+use Rattle.ring.specs.Refusals.{readVerdict, judged}
 use Rattle.ring.specs.Words.{pageIn, wordOf, samePage, links, findHeader}
 use Rattle.ring.specs.Shape.{inShape}
 use Rattle.ring.specs.declared.state.PageNo.{PageNo}
@@ -15,7 +16,6 @@ use Rattle.ring.specs.declared.state.Size.{Size}
 use Rattle.ring.specs.declared.state.Places.{Places}
 use Rattle.ring.specs.declared.state.ReaderPhase.{ReaderPhase}
 use Rattle.ring.specs.declared.state.ReaderPhase.the-variants as phase
-use Rattle.ring.specs.declared.state.Refusal.the-variants.{Shape}
 use Rattle.ring.specs.declared.state.Answer.the-variants as answer
 use Rattle.ring.specs.declared.state.Ring.{Ring}
 use Rattle.ring.specs.declared.moves.Header.{Header}
@@ -90,6 +90,6 @@ fetched (Prepare p h) r = gives answer.Prepared (prepared p h r)
 fetched (Swap p h) r = gives answer.Swapped (swapped p h r)
 fetched Miss r = gives answer.Missed (withReaderPhase phase.Idle r)
 
--- ---- the action: "1 SHAPE" before all; a Read has no other refusal
+-- ---- the action
 abbrev pub readRule : Ring → Outcome
-readRule r = cond (inShape r) (fetched (planRead r) r) (refused Shape r)
+readRule r = judged (readVerdict (inShape r)) r (fetched (planRead r) r)

@@ -7,11 +7,11 @@ use lib.Dec.{eqb, ltb}
 use Rattle.ring.specs.Limits.{pageRoom, normal, header, plainPages, plainSlots, plainMode}
 use Rattle.ring.specs.Lists.{tabulate}
 use Rattle.ring.specs.State.{page, sizeOf, withWords, withReaderPage, blank}
-use Rattle.ring.specs.Answers.{Outcome, gives, refused}
+use Rattle.ring.specs.Answers.{Outcome, gives}
+use Rattle.ring.specs.Refusals.{setUpVerdict, judged}
 use Rattle.ring.specs.Words.{wordOf}
 use Rattle.ring.specs.Shape.{sizeFits}
 use Rattle.ring.specs.declared.state.Size.{Size}
-use Rattle.ring.specs.declared.state.Refusal.the-variants.{SetUp}
 use Rattle.ring.specs.declared.state.Answer.the-variants.{Accepted}
 use Rattle.ring.specs.declared.state.Ring.{Ring}
 
@@ -37,9 +37,7 @@ freshRing size = withWords (freshWords (size .pages)) (withReaderPage (page (siz
 abbrev pub plainRing : Ring
 plainRing = freshRing (sizeOf plainPages plainSlots plainMode)
 
--- "5 SETUP: fresh with N, S or mode out of range: the plain ring"
+-- "5 SETUP: ... the plain ring"
 abbrev pub freshRule : ℕ → ℕ → ℕ → Outcome
 freshRule pages slots mode =
-    cond (sizeFits (sizeOf pages slots mode))
-    (gives Accepted (freshRing (sizeOf pages slots mode)))
-    (refused SetUp plainRing)
+    judged (setUpVerdict (sizeFits (sizeOf pages slots mode))) plainRing (gives Accepted (freshRing (sizeOf pages slots mode)))

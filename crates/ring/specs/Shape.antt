@@ -104,26 +104,29 @@ readerFits Idle s = true
 readerFits (Found p h) s = pagesFit p h (s .pages)
 readerFits (Ready p h) s = pagesFit p h (s .pages)
 
-abbrev pub recordFits : List Writer → Size → ℕ → Bool
-recordFits stack s i = writerFits (recordAt stack i .phase) s
+abbrev pub recordFitsAt : List Writer → Size → ℕ → Bool
+recordFitsAt stack s i = writerFits (recordAt stack i .phase) s
 
 -- "depth at most 4"
 abbrev pub stackFits : List Writer → ℕ → Size → Bool
-stackFits stack depth s = leb depth mostDepth && allBelow depth (recordFits stack s)
+stackFits stack depth s = leb depth mostDepth && allBelow depth (recordFitsAt stack s)
 
 -- "every page named ... by a word of pages 0..N", "no flag 3 in those words"
-abbrev pub wordFits : List ℕ → ℕ → ℕ → Bool
-wordFits words n p = leb (pageIn (wordAt words (page p)) .0) n && not (eqb (flagIn (wordAt words (page p))) 3)
+abbrev pub wordFits : ℕ → ℕ → Bool
+wordFits w n = leb (pageIn w .0) n && not (eqb (flagIn w) 3)
+
+abbrev pub wordFitsAt : List ℕ → ℕ → ℕ → Bool
+wordFitsAt words n p = wordFits (wordAt words (page p)) n
 
 abbrev pub wordsFit : List ℕ → ℕ → Bool
-wordsFit words n = allBelow (n + 1) (wordFits words n)
+wordsFit words n = allBelow (n + 1) (wordFitsAt words n)
 
 -- "the used of pages 0..N ... at most S"
-abbrev pub usedFits : List ℕ → ℕ → ℕ → Bool
-usedFits used slots p = leb (usedAt used (page p)) slots
+abbrev pub usedFitsAt : List ℕ → ℕ → ℕ → Bool
+usedFitsAt used slots p = leb (usedAt used (page p)) slots
 
 abbrev pub usedFit : List ℕ → ℕ → ℕ → Bool
-usedFit used n slots = allBelow (n + 1) (usedFits used slots)
+usedFit used n slots = allBelow (n + 1) (usedFitsAt used slots)
 
 -- "every slot's number, at most 4,294,967,295": every slot that the ring has room for
 abbrev pub numberFits : ℕ → Bool

@@ -7,7 +7,8 @@ use Prim.Native.Nat.{ℕ, _+_}
 use lib.Dec.{eqb, ltb}
 use Rattle.ring.specs.Limits.{stop, normal, header, update}
 use Rattle.ring.specs.State.{reading, wordAt, usedAt, top, withTail, withCommitPage, withCommitIndex, withTaken, withCommitted, withOverwritten, withDropped, setWord, setUsed, setNumber, setValue, setPhase, pop}
-use Rattle.ring.specs.Answers.{Outcome, gives, refused}
+use Rattle.ring.specs.Answers.{Outcome, gives}
+use Rattle.ring.specs.Refusals.{writeVerdict, judged}
 use Rattle.ring.specs.Words.{pageIn, flagIn, wordOf, samePage, links, findHeader}
 use Rattle.ring.specs.Shape.{inShape}
 use Rattle.ring.specs.declared.state.PageNo.{PageNo}
@@ -15,7 +16,6 @@ use Rattle.ring.specs.declared.state.Size.{Size}
 use Rattle.ring.specs.declared.state.Places.{Places}
 use Rattle.ring.specs.declared.state.WriterPhase.{WriterPhase}
 use Rattle.ring.specs.declared.state.WriterPhase.the-variants as phase
-use Rattle.ring.specs.declared.state.Refusal.the-variants.{Shape, Nobody}
 use Rattle.ring.specs.declared.state.Answer.the-variants as answer
 use Rattle.ring.specs.declared.state.Ring.{Ring}
 use Rattle.ring.specs.declared.moves.Header.{Header}
@@ -153,11 +153,6 @@ moved (Fill p slot) r = gives answer.Filled (filled p slot r)
 moved Pend r = gives answer.Pending (pop r)
 moved Commit r = gives (answer.Committed (r .counts .taken)) (committed r)
 
--- ---- the action: "1 SHAPE" before all, "3 NOBODY: Write at depth 0"
+-- ---- the action
 abbrev pub writeRule : Ring → Outcome
-writeRule r =
-    cond (inShape r)
-    (cond (eqb (r .depth) 0)
-    (refused Nobody r)
-    (moved (planWrite r) r))
-    (refused Shape r)
+writeRule r = judged (writeVerdict (inShape r) (r .depth)) r (moved (planWrite r) r)

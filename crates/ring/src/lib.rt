@@ -3,3 +3,6 @@
 pub mod state; // the ring and its parts
 pub mod moves; // what a Write or a Read decides before it stores
 pub mod words; // link words, split and joined
+pub mod shape; // the test of shape
+pub mod setup; // fresh and plain
+pub mod begin; // Begin

@@ -1,7 +1,14 @@
 // What a Write or a Read decides from the pieces of the ring, before anything is stored.
 use crate::state::Answer;
 use crate::state::PageNo;
+use crate::state::Refusal;
 use crate::state::WriterPhase;
+
+// Whether an action is made or refused.
+pub enum Verdict {
+    Allowed,
+    Refused(Refusal),
+}
 
 // The lowest page p other than the reader page whose word is HEADER, with the page h in that word.
 pub enum Header {

@@ -157,20 +157,30 @@ pub struct Receipt {
 // The limits, the sizes of the plain ring, the modes and the flags of a link word.
 impl Ring {
     pub const LEAST_PAGES: u32 = 2;
+
     pub const MOST_PAGES: u32 = 16;
+
     pub const LEAST_SLOTS: u32 = 1;
+
     pub const MOST_SLOTS: u32 = 16;
+
     pub const MOST_DEPTH: u32 = 4;
+
     pub const MOST_COUNT: u64 = 4294967295;
 
     pub const PLAIN_PAGES: u32 = 8;
+
     pub const PLAIN_SLOTS: u32 = 16;
+
     pub const PLAIN_MODE: u32 = 0;
 
     pub const OVERWRITE: u32 = 0;
+
     pub const STOP: u32 = 1;
 
     pub const NORMAL: u32 = 0;
+
     pub const HEADER: u32 = 1;
+
     pub const UPDATE: u32 = 2;
 }

@@ -1,7 +1,6 @@
 // Link words: 4 * (next page) + flag. They are split and joined here and nowhere else.
 ghost use mathlib.Core.Path.{_≡_};
 ghost use Rattle.ring.specs.Words.{pageIn, flagIn, wordOf};
-
 use crate::state::PageNo;
 
 // The page in a word.

@@ -1,0 +1,11 @@
+-- K1 to K12 hold of the rules, for any values in the readings of K9 to K11. By computation; no function of the code is in it.
+-- Assumes nothing.
+use mathlib.Core.Path.{refl}
+use Prim.Native.Nat.{ℕ}
+use Rattle.ring.specs.Shape.{numbersFit, piecesFit, inShape}
+use Rattle.ring.specs.SetUp.{freshWords}
+use Rattle.ring.specs.Cases.{Holds, k1-to-k8, k9, k10, k11, table}
+
+pub cases-hold : (A B C : ℕ) → Holds (table A B C)
+unfolding numbersFit piecesFit inShape freshWords k1-to-k8 k9 k10 k11 table
+cases-hold A B C = refl

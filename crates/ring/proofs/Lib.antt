@@ -1,0 +1,3 @@
+-- Laws and theorems that belong to no one function. The proof of a function stands in a folder of its own.
+pub mod Lists
+pub mod Cases

@@ -1,0 +1,89 @@
+-- Laws of the tests and lists of specs/Lists: what `every` and `allBelow` tell, and what a tabulated list holds; and case splits on tests.
+-- Assumes nothing.
+use mathlib.Core.Path.{_≡_, refl, sym, ap, _∙_}
+use mathlib.Core.Bool.{Bool, true, false, _&&_, cond, true≢false}
+use mathlib.Core.List.{List, [], _∷_, _++_}
+use Prim.Native.Nat.{ℕ, zero, suc, _+_, _≤_, _<_}
+use native.Mathlib.Omega.{arith}
+use native.Mathlib.Numerals.{add-one}
+use borrow.Author.Tests.{eqb-true, eqb-false}
+use lib.Dec.{eqb}
+use lib.ListN.{length, getD, length-append, List·getD-append}
+use lib.Seq.{getD-append-seam}
+use Rattle.ring.specs.Lists.{andThen, every, all, allBelow, tabulate}
+
+-- ---- case splits
+
+pub by-bool : {P : Type 0} (b : Bool) → (b ≡ true → P) → (b ≡ false → P) → P
+by-bool true x y = x refl
+by-bool false x y = y refl
+
+pub by-eq : {P : Type 0} (a b : ℕ) → (a ≡ b → P) → ((a ≡ b → ⊥) → P) → P
+by-eq a b x y = by-bool (eqb a b) (λ e. x (eqb-true a b e)) (λ e. y (eqb-false a b e))
+
+-- ---- tests taken together
+
+pub and-left : (a b : Bool) → a && b ≡ true → a ≡ true
+and-left true b h = refl
+and-left false b h = h
+
+pub and-right : (a b : Bool) → a && b ≡ true → b ≡ true
+and-right true b h = h
+and-right false b h = absurd (true≢false (sym h))
+
+-- each test of a list passes
+abbrev pub Each : List Bool → Type 0
+Each [] = Unit {0}
+Each (b ∷ bs) = (b ≡ true) × Each bs
+
+each-from : (a : Bool) (bs : List Bool) → andThen a bs ≡ true → (a ≡ true) × Each bs
+each-from a [] h = (h, tt)
+each-from a (b ∷ bs) h =
+    let r = each-from (a && b) bs h in
+    (and-left a b (r .0), (and-right a b (r .0), r .1))
+
+pub each : (bs : List Bool) → every bs ≡ true → Each bs
+each [] h = tt
+each (b ∷ bs) h = each-from b bs h
+
+-- ---- tests of every number below a bound, and of every element
+
+module _ (f : ℕ → Bool) where
+  pub allBelow-at : (m i : ℕ) → allBelow m f ≡ true → i < m → f i ≡ true
+  allBelow-at zero i h l = absurd (omega arith)
+  allBelow-at (suc m) i h l =
+      by-eq i m
+      (λ q. rw q (and-right (allBelow m f) (f m) h))
+      (λ n. allBelow-at m i (and-left (allBelow m f) (f m) h) (omega arith))
+
+  pub all-getD : (xs : List ℕ) → ((i : ℕ) → f (getD xs i 0) ≡ true) → all f xs ≡ true
+  all-getD [] h = refl
+  all-getD (x ∷ xs) h = rw (h 0) (all-getD xs (λ i. h (suc i)))
+
+-- A loop that tests one number after the other: `ok` is the test of those below i. A record, so that f and i are found from it.
+pub record Tested (f : ℕ → Bool) (i : ℕ) (ok : Bool) : Type 0 where
+  pub is : ok ≡ allBelow i f
+
+pub tested-none : {f : ℕ → Bool} → Tested f 0 true
+tested-none = record { is = refl }
+
+pub tested-more : {f : ℕ → Bool} {i : ℕ} {ok b : Bool} → Tested f i ok → b ≡ f i → Tested f (i + 1) (ok && b)
+tested-more h e = record { is = rw (add-one, h .is, e) }
+
+pub tested-all : {f : ℕ → Bool} {i : ℕ} {ok : Bool} (m : ℕ) → Tested f i ok → i ≡ m → ok ≡ allBelow m f
+tested-all m h e = rw (← e) (h .is)
+
+-- ---- a list made of a function
+
+module _ (f : ℕ → ℕ) where
+  pub length-tabulate : (k : ℕ) → length (tabulate k f) ≡ k
+  length-tabulate zero = refl
+  length-tabulate (suc k) = simp length-append (rw (length-tabulate k) (add-one k))
+
+  pub getD-tabulate : (k i : ℕ) → i < k → getD (tabulate k f) i 0 ≡ f i
+  getD-tabulate zero i h = absurd (omega arith)
+  getD-tabulate (suc k) i h =
+      let l = length-tabulate k in
+      by-eq i (length (tabulate k f))
+      (λ q. rw q (getD-append-seam (tabulate k f) (f k) [] 0 ∙ ap f (sym l)))
+      (λ n. List·getD-append (tabulate k f) (f k ∷ []) 0 i (omega arith) ∙ getD-tabulate k i (omega arith))

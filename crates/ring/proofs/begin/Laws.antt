@@ -1,0 +1,32 @@
+-- What it tells that a Begin is allowed.
+-- Assumes nothing.
+use mathlib.Core.Path.{_≡_, refl}
+use mathlib.Core.Bool.{Bool, true, false, cond}
+use Prim.Native.Nat.{ℕ}
+use native.Mathlib.Omega.{arith}
+use borrow.Author.Tests.{eqb-false}
+use lib.Dec.{eqb}
+use Rattle.ring.specs.Limits.{mostDepth, mostCount}
+use Rattle.ring.specs.Refusals.{beginVerdict}
+use Rattle.ring.specs.declared.state.Refusal.{Refusal}
+use Rattle.ring.specs.declared.moves.Verdict.{Verdict}
+use Rattle.ring.specs.declared.moves.Verdict.the-variants.{Allowed, Refused}
+use Rattle.ring.proofs.Lists.{by-bool}
+
+pub refused-is-not-allowed : (why : Refusal) → Refused why ≡ Allowed → ⊥
+refused-is-not-allowed why h = let z : _≡_ {A = ℕ} 0 1 = cc in omega arith
+
+pub record Allows (fits : Bool) (depth begun : ℕ) : Type 0 where
+  pub shape : fits ≡ true
+  pub room : depth ≡ mostDepth → ⊥
+  pub fresh : begun ≡ mostCount → ⊥
+
+pub allows : (fits : Bool) (depth begun : ℕ) → beginVerdict fits depth begun ≡ Allowed → Allows fits depth begun
+allows false depth begun h = absurd (refused-is-not-allowed _ h)
+allows true depth begun h =
+    by-bool (eqb depth mostDepth)
+    (λ d. absurd (refused-is-not-allowed _ (rw d at h)))
+    (λ d.
+    by-bool (eqb begun mostCount)
+    (λ b. absurd (refused-is-not-allowed _ (rw (d, b) at h)))
+    (λ b. record { shape = refl; room = eqb-false depth mostDepth d; fresh = eqb-false begun mostCount b }))

@@ -1,0 +1,97 @@
+-- What the test of shape tells: one record of named facts for a ring that passes it. And the two halves of the test: what the code tests,
+-- and the slots' numbers, whose bound comes from their width.
+-- Assumes nothing.
+use mathlib.Core.Path.{_≡_}
+use mathlib.Core.Bool.{Bool, true, _&&_, and-true}
+use Prim.Native.Nat.{ℕ, _+_, _≤_, _<_}
+use native.Mathlib.Omega.{arith}
+use borrow.Author.Tests.{leb-true, le-leb}
+use mir.Syntax.{w32}
+use mir.Val.{Fits}
+use lib.Dec.{leb}
+use lib.ListN.{getD}
+use Rattle.ring.specs.Limits.{leastPages, mostPages, leastSlots, mostSlots, mostDepth, mostCount, stop}
+use Rattle.ring.specs.Lists.{allBelow}
+use Rattle.ring.specs.State.{page, usedAt}
+use Rattle.ring.specs.Shape.{sizeTests, placeTests, smallTests, countsSmall, agreeTests, countsAgree, readerFits, recordFitsAt, wordFitsAt, usedFitsAt, numberFits, numbersFit, pieceTests, piecesFit, inShape}
+use Rattle.ring.specs.declared.state.Ring.{Ring}
+use Rattle.ring.proofs.Lists.{each, and-left, and-right, allBelow-at, all-getD}
+
+-- what the code tests, of a ring
+abbrev pub tested : Ring → Bool
+tested r = piecesFit (r .size) (r .places) (r .counts) (r .reader) (r .stack) (r .depth) (r .words) (r .used)
+
+pub record Shape (r : Ring) : Type 0 where
+  pub pages-least : leastPages ≤ r .size .pages
+  pub pages-most : r .size .pages ≤ mostPages
+  pub slots-least : leastSlots ≤ r .size .slots
+  pub slots-most : r .size .slots ≤ mostSlots
+  pub mode : r .size .mode ≤ stop
+  pub reader : r .places .reader .0 ≤ r .size .pages
+  pub tail : r .places .tail .0 ≤ r .size .pages
+  pub commit : r .places .commit .0 ≤ r .size .pages
+  pub index : r .places .index ≤ r .size .slots
+  pub position : r .places .position ≤ r .size .slots
+  pub begun : r .counts .begun ≤ mostCount
+  pub taken : r .counts .taken ≤ mostCount
+  pub committed : r .counts .committed ≤ mostCount
+  pub handed : r .counts .handed ≤ mostCount
+  pub overwritten : r .counts .overwritten ≤ mostCount
+  pub dropped : r .counts .dropped ≤ mostCount
+  pub gone : r .counts .handed + r .counts .overwritten ≤ r .counts .committed
+  pub uncommitted : r .counts .committed ≤ r .counts .taken
+  pub told : r .counts .taken + r .counts .dropped ≤ r .counts .begun
+  pub phase : readerFits (r .reader .phase) (r .size) ≡ true
+  pub depth : r .depth ≤ mostDepth
+  pub record-at : (i : ℕ) → i < r .depth → recordFitsAt (r .stack) (r .size) i ≡ true
+  pub word-at : (p : ℕ) → p ≤ r .size .pages → wordFitsAt (r .words) (r .size .pages) p ≡ true
+  pub used-at : (p : ℕ) → p ≤ r .size .pages → usedAt (r .used) (page p) ≤ r .size .slots
+
+module _ (r : Ring) where
+  pub shape : tested r ≡ true → Shape r
+  unfolding piecesFit
+  shape h =
+      let e = each (pieceTests (r .size) (r .places) (r .counts) (r .reader) (r .stack) (r .depth) (r .words) (r .used)) h in
+      let s = each (sizeTests (r .size)) (e .0) in
+      let p = each (placeTests (r .places) (r .size)) (e .1 .0) in
+      let k = each (smallTests (r .counts)) (and-left (countsSmall (r .counts)) (countsAgree (r .counts)) (e .1 .1 .0)) in
+      let a = each (agreeTests (r .counts)) (and-right (countsSmall (r .counts)) (countsAgree (r .counts)) (e .1 .1 .0)) in
+      let d = e .1 .1 .1 .1 .0 in
+      let records : allBelow (r .depth) (recordFitsAt (r .stack) (r .size)) ≡ true =
+      and-right (leb (r .depth) mostDepth) (allBelow (r .depth) (recordFitsAt (r .stack) (r .size))) d in
+      record {
+        pages-least = leb-true _ _ (s .0);
+        pages-most = leb-true _ _ (s .1 .0);
+        slots-least = leb-true _ _ (s .1 .1 .0);
+        slots-most = leb-true _ _ (s .1 .1 .1 .0);
+        mode = leb-true _ _ (s .1 .1 .1 .1 .0);
+        reader = leb-true _ _ (p .0);
+        tail = leb-true _ _ (p .1 .0);
+        commit = leb-true _ _ (p .1 .1 .0);
+        index = leb-true _ _ (p .1 .1 .1 .0);
+        position = leb-true _ _ (p .1 .1 .1 .1 .0);
+        begun = leb-true _ _ (k .0);
+        taken = leb-true _ _ (k .1 .0);
+        committed = leb-true _ _ (k .1 .1 .0);
+        handed = leb-true _ _ (k .1 .1 .1 .0);
+        overwritten = leb-true _ _ (k .1 .1 .1 .1 .0);
+        dropped = leb-true _ _ (k .1 .1 .1 .1 .1 .0);
+        gone = leb-true _ _ (a .0);
+        uncommitted = leb-true _ _ (a .1 .0);
+        told = leb-true _ _ (a .1 .1 .0);
+        phase = e .1 .1 .1 .0;
+        depth = leb-true _ _ (and-left (leb (r .depth) mostDepth) (allBelow (r .depth) (recordFitsAt (r .stack) (r .size))) d);
+        record-at = λ i l. allBelow-at (recordFitsAt (r .stack) (r .size)) (r .depth) i records l;
+        word-at = λ i l. allBelow-at (wordFitsAt (r .words) (r .size .pages)) (r .size .pages + 1) i (e .1 .1 .1 .1 .1 .0) (omega arith);
+        used-at = λ i l. leb-true _ _ (allBelow-at (usedFitsAt (r .used) (r .size .slots)) (r .size .pages + 1) i (e .1 .1 .1 .1 .1 .1 .0) (omega arith));
+      }
+
+  -- numbers that are 32 bits wide meet their limit
+  numbers-fit : ((i : ℕ) → Fits w32 (getD (r .numbers) i 0)) → numbersFit (r .numbers) ≡ true
+  unfolding numbersFit
+  numbers-fit h = all-getD numberFits (r .numbers) (λ i. le-leb (getD (r .numbers) i 0) mostCount (omega (arith, h i)))
+
+  -- so what the code tests is the whole definition
+  pub tested-all : ((i : ℕ) → Fits w32 (getD (r .numbers) i 0)) → tested r ≡ inShape r
+  unfolding inShape
+  tested-all h = rw (numbers-fit h, and-true)

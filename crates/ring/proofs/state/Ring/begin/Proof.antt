@@ -1,0 +1,77 @@
+-- `Ring::begin` is the rule. The verdict is that of the definition, since `fits` tests all of the shape but the slots' numbers, and those
+-- are 32 bits wide. Where it is Allowed, depth is below 4 and begun below its limit, so the sums fit. Assumes nothing.
+use mathlib.Core.Path.{_≡_, sym, ap, _∙_}
+use mathlib.Core.Bool.{Bool}
+use Prim.Native.Nat.{ℕ}
+use native.Mathlib.Omega.{arith}
+use borrow.Author.Needs.{needs}
+use mir.Syntax.{w32}
+use mir.Val.{Fits}
+use lib.ListN.{getD}
+use Rattle.ring.specs.Shape.{inShape}
+use Rattle.ring.specs.Refusals.{beginVerdict}
+use Rattle.ring.specs.declared.state.Ring.{Ring}
+use Rattle.ring.proofs.shape.Laws.{Shape, shape, tested-all}
+use Rattle.ring.proofs.begin.Laws.{Allows, allows}
+use Rattle.ring.proofs.state.Ring.begin.Statement.{statement}
+use Rattle.ring.proofs.state.Ring.begin.Tie as tie
+
+narrow : (c : tie.Start) (i : ℕ) → Fits w32 (getD (c .args .t1 .numbers) i 0)
+narrow c i = search needs
+
+-- the ring that the method is given
+abbrev self : tie.After-begin-verdict → Ring
+self c = c .before .before .before .before .before .before .before .before .before .before .args .t1
+
+-- the code's test is the definition's
+fitting : (c : tie.After-begin-verdict) → c .before .fits2 .result ≡ inShape (self c)
+fitting c =
+    c .before .fits2 .ensures
+    ∙ tested-all (self c) (narrow (c .before .before .before .before .before .before .before .before .before .before))
+
+-- and so is its verdict
+verdict : (c : tie.After-begin-verdict) → c .begin-verdict .result ≡ beginVerdict (inShape (self c)) (self c .depth) (self c .counts .begun)
+verdict c =
+    c .begin-verdict .ensures
+    ∙ ap (λ (b : Bool). beginVerdict b (self c .depth) (self c .counts .begun)) (fitting c)
+
+allowed : (c : tie.After-enum-told) → Allows (inShape (self (c .before .before))) (self (c .before .before) .depth) (self (c .before .before) .counts .begun)
+allowed c = allows _ _ _ (sym (verdict (c .before .before)) ∙ c .enum-told .given .1)
+
+shaped : (c : tie.After-enum-told) → Shape (self (c .before .before))
+shaped c = shape (self (c .before .before)) (sym (c .before .before .before .fits2 .ensures) ∙ fitting (c .before .before) ∙ allowed c .shape)
+
+returns : tie.Need-returns
+returns c = rw (sym (verdict (c .before .before .before)) ∙ c .before .verdict .given .1)
+
+add-begun : tie.Need-add-begun
+add-begun c = omega (arith, shaped (c .before))
+
+element-set-from-self : tie.Need-element-set-from-self
+element-set-from-self c = omega (arith, shaped (c .before), allowed (c .before))
+
+add-self : tie.Need-add-self
+add-self c = omega (arith, shaped (c .before))
+
+add-t24 : tie.Need-add-t24
+add-t24 c = omega (arith, shaped (c .before .before))
+
+returns-2 : tie.Need-returns-2
+returns-2 c = rw (sym (verdict (c .before .before .before .before)) ∙ c .before .before .enum-told .given .1)
+
+pub begin-spec : {M : Type 1} → statement M
+begin-spec =
+    tie.close
+    (tie.spec
+    (λ c κs. search needs)
+    (λ c κs. search needs)
+    (λ c. search needs)
+    returns
+    (λ c. search needs)
+    (λ c. search needs)
+    add-begun
+    (λ c. search needs)
+    element-set-from-self
+    add-self
+    add-t24
+    returns-2)

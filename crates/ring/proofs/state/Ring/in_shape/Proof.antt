@@ -1,0 +1,21 @@
+-- `Ring::in_shape` is the definition: `fits` tests all but the slots' numbers, and those are 32 bits wide. Assumes nothing.
+use mathlib.Core.Path.{_∙_}
+use Prim.Native.Nat.{ℕ}
+use borrow.Author.Needs.{needs}
+use mir.Syntax.{w32}
+use mir.Val.{Fits}
+use lib.ListN.{getD}
+use Rattle.ring.proofs.shape.Laws.{tested-all}
+use Rattle.ring.proofs.state.Ring.in_shape.Statement.{statement}
+use Rattle.ring.proofs.state.Ring.in_shape.Tie as tie
+
+narrow : (c : tie.Start) (i : ℕ) → Fits w32 (getD (c .args .t1 .numbers) i 0)
+narrow c i = search needs
+
+returns : tie.Need-returns
+returns c =
+    let start = c .before .before .before .before .before .before .before .before .before in
+    c .fits2 .ensures ∙ tested-all (start .args .t1) (narrow start)
+
+pub in-shape-spec : {M : Type 1} → statement M
+in-shape-spec = tie.close (tie.spec (λ c κs. search needs) returns)

@@ -1,0 +1,71 @@
+// Begin: a new writer on top of the stack.
+ghost use mathlib.Core.Path.{_≡_};
+ghost use Rattle.ring.specs.Answers.{outcome};
+ghost use Rattle.ring.specs.Refusals.{beginVerdict};
+ghost use Rattle.ring.specs.Begin.{beginRule};
+use crate::moves::Verdict;
+use crate::shape::fits;
+use crate::state::Answer;
+use crate::state::Refusal;
+use crate::state::Ring;
+use crate::state::Step;
+use crate::state::Writer;
+use crate::state::WriterPhase;
+
+// Whether a Begin is made or refused; `fit` says whether the ring is in shape.
+fn begin_verdict(fit: bool, depth: u32, begun: u64) -> Verdict
+    ensures { λ r. ⌜ r ≡ beginVerdict fit depth begun ⌝ }
+{
+    if !fit {
+        return Verdict::Refused(Refusal::Shape);
+    }
+    if depth == Ring::MOST_DEPTH {
+        return Verdict::Refused(Refusal::Depth);
+    }
+    if begun == Ring::MOST_COUNT {
+        return Verdict::Refused(Refusal::Worn);
+    }
+    Verdict::Allowed
+}
+
+impl Ring {
+    pub fn begin(mut self, value: u32) -> Step
+        ensures { λ r. ⌜ outcome r ≡ beginRule self value ⌝ }
+    {
+        let size = self.size;
+        let places = self.places;
+        let counts = self.counts;
+        let reader = self.reader;
+        let stack = self.stack;
+        let depth = self.depth;
+        let fit = fits(
+            size,
+            places,
+            counts,
+            reader,
+            stack,
+            depth,
+            &self.words,
+            &self.used,
+        );
+        let verdict = begin_verdict(fit, depth, counts.begun);
+        if let Verdict::Refused(why) = verdict {
+            return Step {
+                ring: self,
+                answer: Answer::Refused(why),
+            };
+        }
+        let at = depth as usize;
+        let begun = counts.begun + 1;
+        self.stack[at] = Writer {
+            value,
+            phase: WriterPhase::Want,
+        };
+        self.depth = depth + 1;
+        self.counts.begun = begun;
+        Step {
+            ring: self,
+            answer: Answer::Begun(depth + 1),
+        }
+    }
+}
