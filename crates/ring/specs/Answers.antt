@@ -22,33 +22,33 @@ pub record Told : Type 0 where
   pub refusal : ℕ
   pub values : List ℕ
 
-abbrev pub tells : List ℕ → Told
-tells values = record { refusal = 0; values = values }
+abbrev pub says : List ℕ → Told
+says values = record { refusal = 0; values = values }
 
 abbrev pub told : Answer → Told
-told Accepted = tells []
-told (Begun depth) = tells (depth ∷ [])
-told (Reserved n) = tells (n .0 ∷ [])
-told Looked = tells []
-told Dropped = tells []
-told Marked = tells []
-told Shared = tells []
-told Retry = tells []
-told Promoted = tells []
-told Standing = tells []
-told Cleared = tells []
-told Pushed = tells []
-told Passed = tells []
-told Filled = tells []
-told (Committed count) = tells (count ∷ [])
-told Pending = tells []
-told (Event n v) = tells (n .0 ∷ v ∷ [])
-told Empty = tells []
-told Found = tells []
-told Busy = tells []
-told Prepared = tells []
-told Swapped = tells []
-told Missed = tells []
+told Accepted = says []
+told (Begun depth) = says (depth ∷ [])
+told (Reserved n) = says (n .0 ∷ [])
+told Looked = says []
+told Dropped = says []
+told Marked = says []
+told Shared = says []
+told Retry = says []
+told Promoted = says []
+told Standing = says []
+told Cleared = says []
+told Pushed = says []
+told Passed = says []
+told Filled = says []
+told (Committed count) = says (count ∷ [])
+told Pending = says []
+told (Event n v) = says (n .0 ∷ v ∷ [])
+told Empty = says []
+told Found = says []
+told Busy = says []
+told Prepared = says []
+told Swapped = says []
+told Missed = says []
 told (Refused why) = record { refusal = numberOf why; values = [] }
 
 -- What an action gives back: "a ring ... with an answer", and what the answer tells.

@@ -1,8 +1,13 @@
--- Tests taken together, tests of every number below a bound, and lists made of a function.
+-- Rules tried in order, tests taken together, tests of every number below a bound, and lists made of a function.
 -- Assumes nothing.
-use mathlib.Core.Bool.{Bool, true, false, _&&_}
+use mathlib.Core.Bool.{Bool, true, false, cond, _&&_}
 use mathlib.Core.List.{List, [], _∷_, _++_}
 use Prim.Native.Nat.{ℕ, zero, suc}
+
+-- "First that applies": what stands beside the first test that passes, or else `otherwise`
+abbrev pub first : {A : Type 0} → List (Bool × A) → A → A
+first [] otherwise = otherwise
+first (rule ∷ rules) otherwise = cond (rule .0) (rule .1) (first rules otherwise)
 
 abbrev pub andThen : Bool → List Bool → Bool
 andThen a [] = a

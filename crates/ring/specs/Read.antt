@@ -2,10 +2,11 @@
 -- The first part reads only the pieces that decide; the second changes the ring.
 -- Assumes nothing.
 use mathlib.Core.Bool.{Bool, cond}
-use mathlib.Core.List.{List}
+use mathlib.Core.List.{List, [], _∷_}
 use Prim.Native.Nat.{ℕ, _+_}
 use lib.Dec.{ltb}
 use Rattle.ring.specs.Limits.{normal, header}
+use Rattle.ring.specs.Lists.{first}
 use Rattle.ring.specs.State.{reading, wordAt, usedAt, numberAt, valueAt, withReaderPage, withPosition, withHanded, withReaderPhase, setWord, setUsed}
 use Rattle.ring.specs.Answers.{Outcome, gives}
 use Rattle.ring.specs.Refusals.{readVerdict, judged}
@@ -16,6 +17,7 @@ use Rattle.ring.specs.declared.state.Size.{Size}
 use Rattle.ring.specs.declared.state.Places.{Places}
 use Rattle.ring.specs.declared.state.ReaderPhase.{ReaderPhase}
 use Rattle.ring.specs.declared.state.ReaderPhase.the-variants as phase
+use Rattle.ring.specs.declared.state.Answer.{Answer}
 use Rattle.ring.specs.declared.state.Answer.the-variants as answer
 use Rattle.ring.specs.declared.state.Ring.{Ring}
 use Rattle.ring.specs.declared.moves.Header.{Header}
@@ -41,11 +43,11 @@ findBy Nowhere = Busy
 -- "IDLE: ... Position below limit: ... Else, commit page is reader page: Empty. Else, the lowest page"
 abbrev pub planIdle : Size → Places → List ℕ → List ℕ → Fetch
 planIdle size places words used =
-    cond (ltb (places .position) (readLimit places used))
-    (Event (places .position))
-    (cond (onCommitPage places)
-    Empty
-    (findBy (findHeader words (size .pages) (places .reader))))
+    first
+    ((ltb (places .position) (readLimit places used), Event)
+    ∷ (onCommitPage places, Empty)
+    ∷ [])
+    (findBy (findHeader words (size .pages) (places .reader)))
 
 -- "READY: if p's word is h HEADER ... Else answer Missed."
 abbrev pub planReady : PageNo → PageNo → List ℕ → Fetch
@@ -62,8 +64,14 @@ planRead r = planReader (r .reader .phase) (r .size) (r .places) (r .words) (r .
 -- ---- what each rule does
 
 -- "position + 1, handed + 1"
-abbrev pub handedOut : ℕ → Ring → Ring
-handedOut slot r = withPosition (slot + 1) (withHanded (r .counts .handed + 1) r)
+abbrev pub handedOut : Ring → Ring
+handedOut r = withPosition (r .places .position + 1) (withHanded (r .counts .handed + 1) r)
+
+-- "Event(number, value)": of the slot at the read position of the reader page
+abbrev pub eventAt : Ring → Answer
+eventAt r =
+    answer.Event (reading (numberAt r (r .places .reader) (r .places .position)))
+    (valueAt r (r .places .reader) (r .places .position))
 
 -- "FOUND: the reader page's word becomes (page in h's word) HEADER. READY"
 abbrev pub prepared : PageNo → PageNo → Ring → Ring
@@ -79,10 +87,7 @@ swapped p h r =
     (withReaderPage h (setUsed (r .places .reader) 0 (setWord p (wordOf (r .places .reader) normal) r))))
 
 abbrev pub fetched : Fetch → Ring → Outcome
-fetched (Event slot) r =
-    gives
-    (answer.Event (reading (numberAt r (r .places .reader) slot)) (valueAt r (r .places .reader) slot))
-    (handedOut slot r)
+fetched Event r = gives (eventAt r) (handedOut r)
 fetched Empty r = gives answer.Empty r
 fetched Busy r = gives answer.Busy r
 fetched (Find p h) r = gives answer.Found (withReaderPhase (phase.Found p h) r)

@@ -1,42 +1,39 @@
 -- The refusals and their order. "Refusals by number": 1 SHAPE, 2 DEPTH, 3 NOBODY, 4 WORN, 5 SETUP. "Order: 1 before all, 2 before 4."
 -- `fits` says whether the ring is in shape.
 -- Assumes nothing.
-use mathlib.Core.Bool.{Bool, cond}
+use mathlib.Core.Bool.{Bool, not}
+use mathlib.Core.List.{[], _∷_}
 use Prim.Native.Nat.{ℕ}
 use lib.Dec.{eqb}
 use Rattle.ring.specs.Limits.{mostDepth, mostCount}
+use Rattle.ring.specs.Lists.{first}
 use Rattle.ring.specs.Answers.{Outcome, gives}
-use Rattle.ring.specs.declared.state.Refusal.{Refusal}
 use Rattle.ring.specs.declared.state.Refusal.the-variants.{Shape, Depth, Nobody, Worn, SetUp}
 use Rattle.ring.specs.declared.state.Answer.the-variants as answer
 use Rattle.ring.specs.declared.state.Ring.{Ring}
 use Rattle.ring.specs.declared.moves.Verdict.{Verdict}
 use Rattle.ring.specs.declared.moves.Verdict.the-variants.{Allowed, Refused}
 
--- "1 SHAPE: an action or receipt on a state not in shape"; `rest` is the verdict on a state in shape
-abbrev pub shaped : Bool → Verdict → Verdict
-shaped fits rest = cond fits rest (Refused Shape)
-
--- "2 DEPTH: Begin at depth 4", "4 WORN: Begin with begun = 4,294,967,295"
+-- "1 SHAPE: an action ... on a state not in shape", "2 DEPTH: Begin at depth 4", "4 WORN: Begin with begun = 4,294,967,295"
 abbrev pub beginVerdict : Bool → ℕ → ℕ → Verdict
 beginVerdict fits depth begun =
-    shaped fits
-    (cond (eqb depth mostDepth)
-    (Refused Depth)
-    (cond (eqb begun mostCount)
-    (Refused Worn)
-    Allowed))
+    first
+    ((not fits, Refused Shape)
+    ∷ (eqb depth mostDepth, Refused Depth)
+    ∷ (eqb begun mostCount, Refused Worn)
+    ∷ [])
+    Allowed
 
 -- "3 NOBODY: Write at depth 0"
 abbrev pub writeVerdict : Bool → ℕ → Verdict
-writeVerdict fits depth = shaped fits (cond (eqb depth 0) (Refused Nobody) Allowed)
+writeVerdict fits depth = first ((not fits, Refused Shape) ∷ (eqb depth 0, Refused Nobody) ∷ []) Allowed
 
 abbrev pub readVerdict : Bool → Verdict
-readVerdict fits = shaped fits Allowed
+readVerdict fits = first ((not fits, Refused Shape) ∷ []) Allowed
 
 -- "5 SETUP: fresh with N, S or mode out of range"; `fits` says whether they are in range
 abbrev pub setUpVerdict : Bool → Verdict
-setUpVerdict fits = cond fits Allowed (Refused SetUp)
+setUpVerdict fits = first ((not fits, Refused SetUp) ∷ []) Allowed
 
 -- what comes back: the ring r with the refusal, or the outcome of the rule
 abbrev pub judged : Verdict → Ring → Outcome → Outcome

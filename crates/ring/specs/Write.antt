@@ -2,10 +2,11 @@
 -- The first part reads only the pieces that decide; the second changes the ring.
 -- Assumes nothing.
 use mathlib.Core.Bool.{Bool, true, false, cond, _&&_, _||_}
-use mathlib.Core.List.{List}
+use mathlib.Core.List.{List, [], _∷_}
 use Prim.Native.Nat.{ℕ, _+_}
 use lib.Dec.{eqb, ltb}
 use Rattle.ring.specs.Limits.{stop, normal, header, update}
+use Rattle.ring.specs.Lists.{first}
 use Rattle.ring.specs.State.{reading, wordAt, usedAt, top, withTail, withCommitPage, withCommitIndex, withTaken, withCommitted, withOverwritten, withDropped, setWord, setUsed, setNumber, setValue, setPhase, pop}
 use Rattle.ring.specs.Answers.{Outcome, gives}
 use Rattle.ring.specs.Refusals.{writeVerdict, judged}
@@ -25,26 +26,23 @@ use Rattle.ring.specs.declared.moves.Move.the-variants.{Become, Reserve,
 
 -- ---- which rule applies
 
--- "WANT, t full: n is the page in t's word. First that applies"; w is t's word. The cases are a to f, in order:
--- a. t is the reader page: PUSH (t, n).
--- b. n is the commit page: drop.
--- c. flag HEADER and the commit page is the reader page: drop.
--- d. flag HEADER, stop mode: drop.
--- e. flag HEADER or UPDATE: MARK (t, n).
--- f. flag NORMAL: PUSH (t, n).
+-- "WANT, t full: n is the page in t's word. First that applies"; w is t's word
 abbrev pub planFull : Size → Places → ℕ → Move
 planFull size places w =
-    cond (samePage (places .tail) (places .reader))
+    first
+    -- a. t is the reader page: PUSH (t, n).
+    ((samePage (places .tail) (places .reader), Become (phase.Push (places .tail) (pageIn w)) answer.Looked)
+    -- b. n is the commit page: drop.
+    ∷ (samePage (pageIn w) (places .commit), Drop)
+    -- c. flag HEADER and the commit page is the reader page: drop.
+    ∷ (eqb (flagIn w) header && samePage (places .commit) (places .reader), Drop)
+    -- d. flag HEADER, stop mode: drop.
+    ∷ (eqb (flagIn w) header && eqb (size .mode) stop, Drop)
+    -- e. flag HEADER or UPDATE: MARK (t, n).
+    ∷ (eqb (flagIn w) header || eqb (flagIn w) update, Become (phase.Mark (places .tail) (pageIn w)) answer.Looked)
+    ∷ [])
+    -- f. flag NORMAL: PUSH (t, n).
     (Become (phase.Push (places .tail) (pageIn w)) answer.Looked)
-    (cond (samePage (pageIn w) (places .commit))
-    Drop
-    (cond (eqb (flagIn w) header && samePage (places .commit) (places .reader))
-    Drop
-    (cond (eqb (flagIn w) header && eqb (size .mode) stop)
-    Drop
-    (cond (eqb (flagIn w) header || eqb (flagIn w) update)
-    (Become (phase.Mark (places .tail) (pageIn w)) answer.Looked)
-    (Become (phase.Push (places .tail) (pageIn w)) answer.Looked)))))
 
 -- "WANT, tail page t with used < S": the slot is used
 abbrev pub planWant : Size → Places → List ℕ → List ℕ → Move
@@ -56,11 +54,11 @@ planWant size places words used =
 -- "MARK: if t's word is n HEADER ... If it is n UPDATE: PROMOTE (t, n, not own). Answer Shared. Otherwise WANT, answer Retry."
 abbrev pub planMark : PageNo → PageNo → List ℕ → Move
 planMark t n words =
-    cond (links words t n header)
-    (Mark t n)
-    (cond (links words t n update)
-    (Become (phase.Promote t n false) answer.Shared)
-    (Become phase.Want answer.Retry))
+    first
+    ((links words t n header, Mark t n)
+    ∷ (links words t n update, Become (phase.Promote t n false) answer.Shared)
+    ∷ [])
+    (Become phase.Want answer.Retry)
 
 -- "Then CLEAR if own, else PUSH."
 abbrev pub afterPromote : PageNo → PageNo → Bool → WriterPhase

@@ -2,6 +2,7 @@
 // answer; nothing is kept elsewhere. The rules are definitions in specs/, and each function's contract is an equation with one of them.
 pub mod state; // the ring and its parts
 pub mod moves; // what a Write or a Read decides before it stores
+pub mod answers; // refusals by number
 pub mod words; // link words, split and joined
 pub mod shape; // the test of shape
 pub mod setup; // fresh and plain

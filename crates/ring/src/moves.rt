@@ -40,8 +40,8 @@ pub enum Move {
 
 // What a Read does.
 pub enum Fetch {
-    // the slot of the reader page that is handed out
-    Event(u32),
+    // the slot at the read position is handed out
+    Event,
     Empty,
     Busy,
     // p, h

@@ -9,13 +9,14 @@ use Rattle.ring.proofs.shape.Laws.{tested-all}
 use Rattle.ring.proofs.state.Ring.in_shape.Statement.{statement}
 use Rattle.ring.proofs.state.Ring.in_shape.Tie as tie
 
+abbrev start : tie.After-fits2 → tie.Start
+start c = c .before .before .before .before .before .before .before .before .before
+
 narrow : (c : tie.Start) (i : ℕ) → Fits w32 (getD (c .args .t1 .numbers) i 0)
 narrow c i = search needs
 
 returns : tie.Need-returns
-returns c =
-    let start = c .before .before .before .before .before .before .before .before .before in
-    c .fits2 .ensures ∙ tested-all (start .args .t1) (narrow start)
+returns c = c .fits2 .ensures ∙ tested-all (start c .args .t1) (narrow (start c))
 
 pub in-shape-spec : {M : Type 1} → statement M
 in-shape-spec = tie.close (tie.spec (λ c κs. search needs) returns)
