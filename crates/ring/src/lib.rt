@@ -7,3 +7,13 @@ pub mod words; // link words, split and joined
 pub mod shape; // the test of shape
 pub mod setup; // fresh and plain
 pub mod begin; // Begin
+
+// what a caller names
+pub use state::Action;
+pub use state::Answer;
+pub use state::PageNo;
+pub use state::ReadingNo;
+pub use state::Receipt;
+pub use state::Refusal;
+pub use state::Ring;
+pub use state::Step;

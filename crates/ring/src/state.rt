@@ -172,7 +172,7 @@ impl Ring {
 
     pub const PLAIN_SLOTS: u32 = 16;
 
-    pub const PLAIN_MODE: u32 = 0;
+    pub const PLAIN_MODE: u32 = Ring::OVERWRITE;
 
     pub const OVERWRITE: u32 = 0;
 

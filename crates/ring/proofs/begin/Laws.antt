@@ -1,7 +1,7 @@
 -- What it tells that a Begin is allowed.
 -- Assumes nothing.
 use mathlib.Core.Path.{_≡_, refl}
-use mathlib.Core.Bool.{Bool, true, false, cond}
+use mathlib.Core.Bool.{Bool, true, false}
 use Prim.Native.Nat.{ℕ}
 use native.Mathlib.Omega.{arith}
 use borrow.Author.Tests.{eqb-false}
@@ -9,7 +9,6 @@ use lib.Dec.{eqb}
 use Rattle.ring.specs.Limits.{mostDepth, mostCount}
 use Rattle.ring.specs.Refusals.{beginVerdict}
 use Rattle.ring.specs.declared.state.Refusal.{Refusal}
-use Rattle.ring.specs.declared.moves.Verdict.{Verdict}
 use Rattle.ring.specs.declared.moves.Verdict.the-variants.{Allowed, Refused}
 use Rattle.ring.proofs.Lists.{by-bool}
 
