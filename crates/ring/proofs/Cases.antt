@@ -6,6 +6,6 @@ use Rattle.ring.specs.Shape.{numbersFit, piecesFit, inShape}
 use Rattle.ring.specs.SetUp.{freshWords}
 use Rattle.ring.specs.Cases.{Holds, k1-to-k8, k9, k10, k11, table}
 
-pub cases-hold : (A B C : ℕ) → Holds (table A B C)
+pub cases-hold : (A B C D E : ℕ) → Holds (table A B C D E)
 unfolding numbersFit piecesFit inShape freshWords k1-to-k8 k9 k10 k11 table
-cases-hold A B C = refl
+cases-hold A B C D E = refl

@@ -70,8 +70,8 @@ tested-none = record { is = refl }
 pub tested-more : {f : ℕ → Bool} {i : ℕ} {ok b : Bool} → Tested f i ok → b ≡ f i → Tested f (i + 1) (ok && b)
 tested-more h e = record { is = rw (add-one, h .is, e) }
 
-pub tested-all : {f : ℕ → Bool} {i : ℕ} {ok : Bool} (m : ℕ) → Tested f i ok → i ≡ m → ok ≡ allBelow m f
-tested-all m h e = rw (← e) (h .is)
+pub tested-end : {f : ℕ → Bool} {i : ℕ} {ok : Bool} (m : ℕ) → Tested f i ok → i ≡ m → ok ≡ allBelow m f
+tested-end m h e = rw (← e) (h .is)
 
 -- ---- a list made of a function
 

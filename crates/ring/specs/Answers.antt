@@ -1,4 +1,5 @@
--- Answers: the number that a refusal has, the values that an answer tells, and what an action gives back. "Refusals by number".
+-- Answers: the number that a refusal has, the values that an answer tells, and what an action gives back. "Refusals by number"; "Where an
+-- answer is an enum, a definition gives this paper's number and values for each case of the enum, and the promises use that definition."
 -- Assumes nothing.
 use mathlib.Core.List.{List, [], _∷_}
 use Prim.Native.Nat.{ℕ}
@@ -51,7 +52,7 @@ told Swapped = says []
 told Missed = says []
 told (Refused why) = record { refusal = numberOf why; values = [] }
 
--- What an action gives back: "a ring ... with an answer", and what the answer tells.
+-- "Each action takes a ring and gives the ring back, with an answer": these two, and what the answer tells.
 pub record Outcome : Type 0 where
   pub ring : Ring
   pub answer : Answer

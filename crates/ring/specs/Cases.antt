@@ -151,7 +151,7 @@ k1-to-k8 =
     ∷ row (Read ∷ []) (Event (reading 2) 72 ∷ []) (ReceiptIs (receipt 3 3 2 1 0 0 0 false) ∷ [])
     ∷ [])
 
--- "Each from fresh again"; A, B and C are any values
+-- "Each from fresh again"
 unfoldable pub k9 : ℕ → ℕ → ℕ → Case
 k9 A B C =
     small
@@ -174,24 +174,25 @@ k10 A B C =
     ∷ row (Write ∷ []) (Dropped ∷ []) (DepthIs 0 ∷ CommittedIs 0 ∷ [])
     ∷ [])
 
-unfoldable pub k11 : ℕ → Case
-k11 A =
+unfoldable pub k11 : ℕ → ℕ → ℕ → ℕ → ℕ → Case
+k11 A B C D E =
     small
     (row (Write ∷ []) (Refused refusal.Nobody ∷ []) (RefusalIs 3 ∷ [])
-    ∷ row (Begin A ∷ Begin A ∷ Begin A ∷ Begin A ∷ []) (Begun 1 ∷ Begun 2 ∷ Begun 3 ∷ Begun 4 ∷ []) (RefusalIs 0 ∷ [])
-    ∷ row (Begin A ∷ []) (Refused refusal.Depth ∷ []) (RefusalIs 2 ∷ [])
+    ∷ row (Begin A ∷ Begin B ∷ Begin C ∷ Begin D ∷ []) (Begun 1 ∷ Begun 2 ∷ Begun 3 ∷ Begun 4 ∷ []) (RefusalIs 0 ∷ [])
+    ∷ row (Begin E ∷ []) (Refused refusal.Depth ∷ []) (RefusalIs 2 ∷ [])
     ∷ [])
 
 -- K12: a set-up with no action after it, and the number of its refusal
 abbrev pub setUpGets : ℕ → ℕ → ℕ → ℕ → Case
 setUpGets pages slots mode number = from pages slots mode (row [] [] (RefusalIs number ∷ []) ∷ [])
 
-unfoldable pub table : ℕ → ℕ → ℕ → List Case
-table A B C =
+-- all of it; the values in the readings of K9 to K11 are any
+unfoldable pub table : ℕ → ℕ → ℕ → ℕ → ℕ → List Case
+table A B C D E =
     k1-to-k8
     ∷ k9 A B C
     ∷ k10 A B C
-    ∷ k11 A
+    ∷ k11 A B C D E
     ∷ setUpGets 1 1 0 5
     ∷ setUpGets 17 1 0 5
     ∷ setUpGets 2 0 0 5

@@ -48,6 +48,10 @@ header = 1
 abbrev pub update : ℕ
 update = 2
 
+-- "One word never has both flags": the flag 3 that no word in shape has
+abbrev pub bothFlags : ℕ
+bothFlags = 3
+
 -- "The plain ring is 8 pages of 16 slots in overwrite mode."
 abbrev pub plainPages : ℕ
 plainPages = 8

@@ -1,7 +1,7 @@
 -- Read: which rule applies to the reader, what each rule does, and the action. "Read".
 -- The first part reads only the pieces that decide; the second changes the ring.
 -- Assumes nothing.
-use mathlib.Core.Bool.{Bool, cond}
+use mathlib.Core.Bool.{cond}
 use mathlib.Core.List.{List, [], _∷_}
 use Prim.Native.Nat.{ℕ, _+_}
 use lib.Dec.{ltb}
@@ -10,7 +10,7 @@ use Rattle.ring.specs.Lists.{first}
 use Rattle.ring.specs.State.{reading, wordAt, usedAt, numberAt, valueAt, withReaderPage, withPosition, withHanded, withReaderPhase, setWord, setUsed}
 use Rattle.ring.specs.Answers.{Outcome, gives}
 use Rattle.ring.specs.Refusals.{readVerdict, judged}
-use Rattle.ring.specs.Words.{pageIn, wordOf, samePage, links, findHeader}
+use Rattle.ring.specs.Words.{pageIn, wordOf, readerOnCommit, links, findHeader}
 use Rattle.ring.specs.Shape.{inShape}
 use Rattle.ring.specs.declared.state.PageNo.{PageNo}
 use Rattle.ring.specs.declared.state.Size.{Size}
@@ -20,23 +20,19 @@ use Rattle.ring.specs.declared.state.ReaderPhase.the-variants as phase
 use Rattle.ring.specs.declared.state.Answer.{Answer}
 use Rattle.ring.specs.declared.state.Answer.the-variants as answer
 use Rattle.ring.specs.declared.state.Ring.{Ring}
-use Rattle.ring.specs.declared.moves.Header.{Header}
-use Rattle.ring.specs.declared.moves.Header.the-variants.{At, Nowhere}
+use Rattle.ring.specs.declared.moves.Search.{Search}
+use Rattle.ring.specs.declared.moves.Search.the-variants.{At, Nowhere}
 use Rattle.ring.specs.declared.moves.Fetch.{Fetch}
 use Rattle.ring.specs.declared.moves.Fetch.the-variants.{Event, Empty, Busy, Find, Prepare, Swap, Miss}
 
 -- ---- which rule applies
 
--- "the commit page is the reader page"
-abbrev pub onCommitPage : Places → Bool
-onCommitPage places = samePage (places .commit) (places .reader)
-
 -- "the limit is the commit index if the commit page is the reader page, else the reader page's used"
 abbrev pub readLimit : Places → List ℕ → ℕ
-readLimit places used = cond (onCommitPage places) (places .index) (usedAt used (places .reader))
+readLimit places used = cond (readerOnCommit places) (places .index) (usedAt used (places .reader))
 
 -- "the lowest page p other than the reader page whose word is HEADER, h its page: FOUND (p, h) ... No such page: Busy."
-abbrev pub findBy : Header → Fetch
+abbrev pub findBy : Search → Fetch
 findBy (At p h) = Find p h
 findBy Nowhere = Busy
 
@@ -45,7 +41,7 @@ abbrev pub planIdle : Size → Places → List ℕ → List ℕ → Fetch
 planIdle size places words used =
     first
     ((ltb (places .position) (readLimit places used), Event)
-    ∷ (onCommitPage places, Empty)
+    ∷ (readerOnCommit places, Empty)
     ∷ [])
     (findBy (findHeader words (size .pages) (places .reader)))
 
@@ -64,35 +60,35 @@ planRead r = planReader (r .reader .phase) (r .size) (r .places) (r .words) (r .
 -- ---- what each rule does
 
 -- "position + 1, handed + 1"
-abbrev pub handedOut : Ring → Ring
-handedOut r = withPosition (r .places .position + 1) (withHanded (r .counts .handed + 1) r)
+abbrev pub handOut : Ring → Ring
+handOut r = withPosition (r .places .position + 1) (withHanded (r .counts .handed + 1) r)
 
 -- "Event(number, value)": of the slot at the read position of the reader page
-abbrev pub eventAt : Ring → Answer
-eventAt r =
+abbrev pub eventOf : Ring → Answer
+eventOf r =
     answer.Event (reading (numberAt r (r .places .reader) (r .places .position)))
     (valueAt r (r .places .reader) (r .places .position))
 
 -- "FOUND: the reader page's word becomes (page in h's word) HEADER. READY"
-abbrev pub prepared : PageNo → PageNo → Ring → Ring
-prepared p h r =
+abbrev pub prepare : PageNo → PageNo → Ring → Ring
+prepare p h r =
     withReaderPhase (phase.Ready p h)
     (setWord (r .places .reader) (wordOf (pageIn (wordAt (r .words) h)) header) r)
 
 -- "it becomes (reader page) NORMAL; the old reader page's used becomes 0; h is the reader page; position 0. ... IDLE."
-abbrev pub swapped : PageNo → PageNo → Ring → Ring
-swapped p h r =
+abbrev pub swap : PageNo → PageNo → Ring → Ring
+swap p h r =
     withReaderPhase phase.Idle
     (withPosition 0
     (withReaderPage h (setUsed (r .places .reader) 0 (setWord p (wordOf (r .places .reader) normal) r))))
 
 abbrev pub fetched : Fetch → Ring → Outcome
-fetched Event r = gives (eventAt r) (handedOut r)
+fetched Event r = gives (eventOf r) (handOut r)
 fetched Empty r = gives answer.Empty r
 fetched Busy r = gives answer.Busy r
 fetched (Find p h) r = gives answer.Found (withReaderPhase (phase.Found p h) r)
-fetched (Prepare p h) r = gives answer.Prepared (prepared p h r)
-fetched (Swap p h) r = gives answer.Swapped (swapped p h r)
+fetched (Prepare p h) r = gives answer.Prepared (prepare p h r)
+fetched (Swap p h) r = gives answer.Swapped (swap p h r)
 fetched Miss r = gives answer.Missed (withReaderPhase phase.Idle r)
 
 -- ---- the action

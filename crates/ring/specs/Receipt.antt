@@ -26,9 +26,9 @@ receiptOf c =
       complete = eqb (c .begun) (c .handed);
     }
 
--- "1 SHAPE: ... receipt all zero, not complete"
-abbrev pub noReceipt : Receipt
-noReceipt =
+-- refusal 1: "receipt all zero, not complete"
+abbrev pub refusedReceipt : Receipt
+refusedReceipt =
     record {
       refusal = numberOf Shape;
       begun = 0;
@@ -42,4 +42,4 @@ noReceipt =
     }
 
 abbrev pub receiptRule : Ring → Receipt
-receiptRule r = cond (inShape r) (receiptOf (r .counts)) noReceipt
+receiptRule r = cond (inShape r) (receiptOf (r .counts)) refusedReceipt

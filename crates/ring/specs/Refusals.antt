@@ -1,5 +1,5 @@
 -- The refusals and their order. "Refusals by number": 1 SHAPE, 2 DEPTH, 3 NOBODY, 4 WORN, 5 SETUP. "Order: 1 before all, 2 before 4."
--- `fits` says whether the ring is in shape.
+-- In each list the first row that applies decides; `fits` says whether the ring is in shape.
 -- Assumes nothing.
 use mathlib.Core.Bool.{Bool, not}
 use mathlib.Core.List.{[], _∷_}
@@ -14,7 +14,7 @@ use Rattle.ring.specs.declared.state.Ring.{Ring}
 use Rattle.ring.specs.declared.moves.Verdict.{Verdict}
 use Rattle.ring.specs.declared.moves.Verdict.the-variants.{Allowed, Refused}
 
--- "1 SHAPE: an action ... on a state not in shape", "2 DEPTH: Begin at depth 4", "4 WORN: Begin with begun = 4,294,967,295"
+-- SHAPE "an action ... on a state not in shape", DEPTH "Begin at depth 4", WORN "Begin with begun = 4,294,967,295"
 abbrev pub beginVerdict : Bool → ℕ → ℕ → Verdict
 beginVerdict fits depth begun =
     first
@@ -24,18 +24,19 @@ beginVerdict fits depth begun =
     ∷ [])
     Allowed
 
--- "3 NOBODY: Write at depth 0"
+-- SHAPE as before, NOBODY "Write at depth 0"
 abbrev pub writeVerdict : Bool → ℕ → Verdict
 writeVerdict fits depth = first ((not fits, Refused Shape) ∷ (eqb depth 0, Refused Nobody) ∷ []) Allowed
 
+-- a Read is refused with SHAPE alone
 abbrev pub readVerdict : Bool → Verdict
 readVerdict fits = first ((not fits, Refused Shape) ∷ []) Allowed
 
--- "5 SETUP: fresh with N, S or mode out of range"; `fits` says whether they are in range
+-- SETUP "fresh with N, S or mode out of range"; `fits` says whether they are in range
 abbrev pub setUpVerdict : Bool → Verdict
 setUpVerdict fits = first ((not fits, Refused SetUp) ∷ []) Allowed
 
--- what comes back: the ring r with the refusal, or the outcome of the rule
+-- "Comes back": the ring r with the refusal, or, of an action that is allowed, the outcome of its rule
 abbrev pub judged : Verdict → Ring → Outcome → Outcome
 judged Allowed r o = o
 judged (Refused why) r o = gives (answer.Refused why) r

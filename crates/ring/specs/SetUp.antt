@@ -15,7 +15,7 @@ use Rattle.ring.specs.declared.state.Size.{Size}
 use Rattle.ring.specs.declared.state.Answer.the-variants.{Accepted}
 use Rattle.ring.specs.declared.state.Ring.{Ring}
 
--- "page i links to i+1, page N−1 to 0", "Reader page N links to 0"; pages above N have 0 too
+-- "page i links to i+1, page N−1 to 0 ...", "Reader page N links to 0 ...", "Words of pages above N are 0."
 abbrev pub freshNext : ℕ → ℕ → ℕ
 freshNext n i = cond (ltb (i + 1) n) (i + 1) 0
 
@@ -37,7 +37,7 @@ freshRing size = withWords (freshWords (size .pages)) (withReaderPage (page (siz
 abbrev pub plainRing : Ring
 plainRing = freshRing (sizeOf plainPages plainSlots plainMode)
 
--- "5 SETUP: ... the plain ring"
+-- refusal 5: "fresh with N, S or mode out of range", "the plain ring"
 abbrev pub freshRule : ℕ → ℕ → ℕ → Outcome
 freshRule pages slots mode =
     judged (setUpVerdict (sizeFits (sizeOf pages slots mode))) plainRing (gives Accepted (freshRing (sizeOf pages slots mode)))

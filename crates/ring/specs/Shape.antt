@@ -4,7 +4,7 @@ use mathlib.Core.Bool.{Bool, true, _&&_, not}
 use mathlib.Core.List.{List, [], _∷_}
 use Prim.Native.Nat.{ℕ, _+_}
 use lib.Dec.{eqb, leb, ltb}
-use Rattle.ring.specs.Limits.{leastPages, mostPages, leastSlots, mostSlots, mostDepth, mostCount, stop}
+use Rattle.ring.specs.Limits.{leastPages, mostPages, leastSlots, mostSlots, mostDepth, mostCount, stop, bothFlags}
 use Rattle.ring.specs.Lists.{every, all, allBelow}
 use Rattle.ring.specs.State.{page, wordAt, usedAt, recordAt}
 use Rattle.ring.specs.Words.{pageIn, flagIn}
@@ -46,7 +46,8 @@ placeTests p s =
 abbrev pub placesFit : Places → Size → Bool
 placesFit p s = every (placeTests p s)
 
--- "every count ... at most 4,294,967,295"
+-- "every count ... at most 4,294,967,295". A count past it is kept: "If a step takes a count past its limit there, the larger count is kept
+-- as it is, and the next action gets 1."
 abbrev pub smallTests : Counts → List Bool
 smallTests c =
     leb (c .begun) mostCount
@@ -81,7 +82,7 @@ pageTests p q n = leb (p .0) n ∷ leb (q .0) n ∷ []
 abbrev pub pagesFit : PageNo → PageNo → ℕ → Bool
 pagesFit p q n = every (pageTests p q n)
 
--- "a held slot of a record below the depth below S"
+-- the page of a held slot at most N, and "a held slot of a record below the depth below S"
 abbrev pub heldTests : PageNo → ℕ → Size → List Bool
 heldTests p slot s = leb (p .0) (s .pages) ∷ ltb slot (s .slots) ∷ []
 
@@ -107,13 +108,13 @@ readerFits (Ready p h) s = pagesFit p h (s .pages)
 abbrev pub recordFitsAt : List Writer → Size → ℕ → Bool
 recordFitsAt stack s i = writerFits (recordAt stack i .phase) s
 
--- "depth at most 4"
+-- "depth at most 4", and each record below it fits
 abbrev pub stackFits : List Writer → ℕ → Size → Bool
 stackFits stack depth s = leb depth mostDepth && allBelow depth (recordFitsAt stack s)
 
 -- "every page named ... by a word of pages 0..N", "no flag 3 in those words"
 abbrev pub wordFits : ℕ → ℕ → Bool
-wordFits w n = leb (pageIn w .0) n && not (eqb (flagIn w) 3)
+wordFits w n = leb (pageIn w .0) n && not (eqb (flagIn w) bothFlags)
 
 abbrev pub wordFitsAt : List ℕ → ℕ → ℕ → Bool
 wordFitsAt words n p = wordFits (wordAt words (page p)) n
@@ -128,7 +129,7 @@ usedFitsAt used slots p = leb (usedAt used (page p)) slots
 abbrev pub usedFit : List ℕ → ℕ → ℕ → Bool
 usedFit used n slots = allBelow (n + 1) (usedFitsAt used slots)
 
--- "every slot's number, at most 4,294,967,295": every slot that the ring has room for
+-- "every slot's number, at most 4,294,967,295": of every slot that the ring has room for
 abbrev pub numberFits : ℕ → Bool
 numberFits number = leb number mostCount
 
@@ -151,8 +152,10 @@ unfoldable pub piecesFit : Size → Places → Counts → Reader → List Writer
 piecesFit size places counts reader stack depth words used =
     every (pieceTests size places counts reader stack depth words used)
 
+-- the same of a ring: what the code tests
+abbrev pub ringFits : Ring → Bool
+ringFits r = piecesFit (r .size) (r .places) (r .counts) (r .reader) (r .stack) (r .depth) (r .words) (r .used)
+
 -- "In shape"
 unfoldable pub inShape : Ring → Bool
-inShape r =
-    piecesFit (r .size) (r .places) (r .counts) (r .reader) (r .stack) (r .depth) (r .words) (r .used)
-    && numbersFit (r .numbers)
+inShape r = ringFits r && numbersFit (r .numbers)

@@ -1,6 +1,5 @@
--- The parts of a ring: one setter for each field, what stands where, and a ring of zeros. The only record literals of a ring, its places and
--- its counts are here: a new field is added to these and to little else. Rules are written with the second group of setters, which all
--- change a ring. "Parts of a ring".
+-- The parts of a ring: one setter for each field that an action changes, what stands where, and a ring of zeros. The only record literals of a
+-- ring, its places and its counts are here: a new field is added to these and to little else. "Parts of a ring".
 -- Assumes nothing.
 use mathlib.Core.List.{List}
 use Prim.Native.Nat.{ℕ, _+_, _-_, _*_}
@@ -33,11 +32,11 @@ sizeOf pages slots mode = record { pages = pages; slots = slots; mode = mode }
 abbrev pub writer : ℕ → WriterPhase → Writer
 writer v phase = record { value = v; phase = phase }
 
--- "A popped record's place is reset to WANT with value 0."
+-- what stands in a place of the stack that no writer has
 abbrev pub noWriter : Writer
 noWriter = writer 0 Want
 
--- ---- one setter for each field
+-- ---- one setter for each field of places, counts and ring
 
 abbrev pub placesReader : PageNo → Places → Places
 placesReader x s =
@@ -290,7 +289,7 @@ withValues x s =
       values = x;
     }
 
--- ---- the same for the parts of a ring's places, counts and reader
+-- ---- the same, as changes of the whole ring
 
 abbrev pub withReaderPage : PageNo → Ring → Ring
 withReaderPage x r = withPlaces (placesReader x (r .places)) r
@@ -337,14 +336,14 @@ abbrev pub usedAt : List ℕ → PageNo → ℕ
 usedAt used p = getD used (p .0) 0
 
 -- where slot `slot` of page p stands in the arrays of slots
-abbrev pub slotAt : Size → PageNo → ℕ → ℕ
-slotAt size p slot = p .0 * size .slots + slot
+abbrev pub slotIndex : Size → PageNo → ℕ → ℕ
+slotIndex size p slot = p .0 * size .slots + slot
 
 abbrev pub numberAt : Ring → PageNo → ℕ → ℕ
-numberAt r p slot = getD (r .numbers) (slotAt (r .size) p slot) 0
+numberAt r p slot = getD (r .numbers) (slotIndex (r .size) p slot) 0
 
 abbrev pub valueAt : Ring → PageNo → ℕ → ℕ
-valueAt r p slot = getD (r .values) (slotAt (r .size) p slot) 0
+valueAt r p slot = getD (r .values) (slotIndex (r .size) p slot) 0
 
 abbrev pub recordAt : List Writer → ℕ → Writer
 recordAt stack i = getD stack i noWriter
@@ -362,10 +361,10 @@ abbrev pub setUsed : PageNo → ℕ → Ring → Ring
 setUsed p k r = withUsed (set (r .used) (p .0) k) r
 
 abbrev pub setNumber : PageNo → ℕ → ℕ → Ring → Ring
-setNumber p slot number r = withNumbers (set (r .numbers) (slotAt (r .size) p slot) number) r
+setNumber p slot number r = withNumbers (set (r .numbers) (slotIndex (r .size) p slot) number) r
 
 abbrev pub setValue : PageNo → ℕ → ℕ → Ring → Ring
-setValue p slot value r = withValues (set (r .values) (slotAt (r .size) p slot) value) r
+setValue p slot value r = withValues (set (r .values) (slotIndex (r .size) p slot) value) r
 
 abbrev pub setRecord : ℕ → Writer → Ring → Ring
 setRecord i w r = withStack (set (r .stack) i w) r
@@ -374,7 +373,7 @@ setRecord i w r = withStack (set (r .stack) i w) r
 abbrev pub setPhase : WriterPhase → Ring → Ring
 setPhase phase r = setRecord (r .depth - 1) (writer (top r .value) phase) r
 
--- the top record popped
+-- the top record popped: "A popped record's place is reset to WANT with value 0."
 abbrev pub pop : Ring → Ring
 pop r = withDepth (r .depth - 1) (setRecord (r .depth - 1) noWriter r)
 

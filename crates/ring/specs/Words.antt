@@ -1,4 +1,4 @@
--- Link words, and the search for the HEADER word. "A link word for each page: 4 × (next page) + flag."
+-- Link words, and the search for the HEADER word among the ring pages. "A link word for each page: 4 × (next page) + flag."
 -- Assumes nothing.
 use mathlib.Core.Bool.{Bool, _&&_, not}
 use mathlib.Core.List.{List}
@@ -8,8 +8,9 @@ use Rattle.ring.specs.Limits.{header}
 use Rattle.ring.specs.Lists.{Least, none, at, least}
 use Rattle.ring.specs.State.{page, wordAt}
 use Rattle.ring.specs.declared.state.PageNo.{PageNo}
-use Rattle.ring.specs.declared.moves.Header.{Header}
-use Rattle.ring.specs.declared.moves.Header.the-variants.{At, Nowhere}
+use Rattle.ring.specs.declared.state.Places.{Places}
+use Rattle.ring.specs.declared.moves.Search.{Search}
+use Rattle.ring.specs.declared.moves.Search.the-variants.{At, Nowhere}
 
 -- the page in a word
 abbrev pub pageIn : ℕ → PageNo
@@ -27,6 +28,10 @@ wordOf p flag = 4 * p .0 + flag
 abbrev pub samePage : PageNo → PageNo → Bool
 samePage p q = eqb (p .0) (q .0)
 
+-- "the commit page is the reader page"
+abbrev pub readerOnCommit : Places → Bool
+readerOnCommit places = samePage (places .commit) (places .reader)
+
 -- the word of page p is n with this flag
 abbrev pub links : List ℕ → PageNo → PageNo → ℕ → Bool
 links words p n flag = eqb (wordAt words p) (wordOf n flag)
@@ -35,10 +40,10 @@ links words p n flag = eqb (wordAt words p) (wordOf n flag)
 abbrev pub heads : List ℕ → PageNo → ℕ → Bool
 heads words reader p = not (samePage (page p) reader) && eqb (flagIn (wordAt words (page p))) header
 
-abbrev pub headerAt : List ℕ → Least → Header
-headerAt words none = Nowhere
-headerAt words (at p) = At (page p) (pageIn (wordAt words (page p)))
+abbrev pub foundAt : List ℕ → Least → Search
+foundAt words none = Nowhere
+foundAt words (at p) = At (page p) (pageIn (wordAt words (page p)))
 
 -- "the lowest page p other than the reader page whose word is HEADER, h its page"; n is the last page, N
-abbrev pub findHeader : List ℕ → ℕ → PageNo → Header
-findHeader words n reader = headerAt words (least (n + 1) (heads words reader))
+abbrev pub findHeader : List ℕ → ℕ → PageNo → Search
+findHeader words n reader = foundAt words (least (n + 1) (heads words reader))

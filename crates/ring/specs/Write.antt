@@ -10,7 +10,7 @@ use Rattle.ring.specs.Lists.{first}
 use Rattle.ring.specs.State.{reading, wordAt, usedAt, top, withTail, withCommitPage, withCommitIndex, withTaken, withCommitted, withOverwritten, withDropped, setWord, setUsed, setNumber, setValue, setPhase, pop}
 use Rattle.ring.specs.Answers.{Outcome, gives}
 use Rattle.ring.specs.Refusals.{writeVerdict, judged}
-use Rattle.ring.specs.Words.{pageIn, flagIn, wordOf, samePage, links, findHeader}
+use Rattle.ring.specs.Words.{pageIn, flagIn, wordOf, samePage, readerOnCommit, links, findHeader}
 use Rattle.ring.specs.Shape.{inShape}
 use Rattle.ring.specs.declared.state.PageNo.{PageNo}
 use Rattle.ring.specs.declared.state.Size.{Size}
@@ -19,8 +19,8 @@ use Rattle.ring.specs.declared.state.WriterPhase.{WriterPhase}
 use Rattle.ring.specs.declared.state.WriterPhase.the-variants as phase
 use Rattle.ring.specs.declared.state.Answer.the-variants as answer
 use Rattle.ring.specs.declared.state.Ring.{Ring}
-use Rattle.ring.specs.declared.moves.Header.{Header}
-use Rattle.ring.specs.declared.moves.Header.the-variants.{At, Nowhere}
+use Rattle.ring.specs.declared.moves.Search.{Search}
+use Rattle.ring.specs.declared.moves.Search.the-variants.{At, Nowhere}
 use Rattle.ring.specs.declared.moves.Move.{Move}
 use Rattle.ring.specs.declared.moves.Move.the-variants.{Become, Reserve, Drop, Mark, Promote, Clear, Push, Fill, Pend, Commit}
 
@@ -35,7 +35,7 @@ planFull size places w =
     -- b. n is the commit page: drop.
     ∷ (samePage (pageIn w) (places .commit), Drop)
     -- c. flag HEADER and the commit page is the reader page: drop.
-    ∷ (eqb (flagIn w) header && samePage (places .commit) (places .reader), Drop)
+    ∷ (eqb (flagIn w) header && readerOnCommit places, Drop)
     -- d. flag HEADER, stop mode: drop.
     ∷ (eqb (flagIn w) header && eqb (size .mode) stop, Drop)
     -- e. flag HEADER or UPDATE: MARK (t, n).
@@ -44,7 +44,7 @@ planFull size places w =
     -- f. flag NORMAL: PUSH (t, n).
     (Become (phase.Push (places .tail) (pageIn w)) answer.Looked)
 
--- "WANT, tail page t with used < S": the slot is used
+-- "WANT, tail page t with used < S": the slot is the one whose number is t's used
 abbrev pub planWant : Size → Places → List ℕ → List ℕ → Move
 planWant size places words used =
     cond (ltb (usedAt used (places .tail)) (size .slots))
@@ -65,8 +65,8 @@ abbrev pub afterPromote : PageNo → PageNo → Bool → WriterPhase
 afterPromote t n true = phase.Clear t n
 afterPromote t n false = phase.Push t n
 
--- "PROMOTE: if no page other than the reader page has a HEADER word ... Else nothing; answer Standing."
-abbrev pub promoteBy : Header → PageNo → WriterPhase → Move
+-- "PROMOTE: if no page other than the reader page has a HEADER word ... Else nothing; answer Standing. The look and the store are one step"
+abbrev pub promoteBy : Search → PageNo → WriterPhase → Move
 promoteBy (At p h) n next = Become next answer.Standing
 promoteBy Nowhere n next = Promote n next
 
@@ -102,54 +102,55 @@ planWrite r = planPhase (top r .phase) (r .size) (r .places) (r .depth) (r .word
 -- ---- what each rule does
 
 -- "slot used gets the number taken; taken + 1, used + 1; phase HELD (t, slot). ... The slot's old value stays."
-abbrev pub reserved : PageNo → ℕ → Ring → Ring
-reserved t slot r =
+abbrev pub reserve : PageNo → ℕ → Ring → Ring
+reserve t slot r =
     withTaken (r .counts .taken + 1)
     (setUsed t (slot + 1) (setNumber t slot (r .counts .taken) (setPhase (phase.Held t slot) r)))
 
 -- "Dropped: dropped + 1, record popped, nothing else."
-abbrev pub dropped : Ring → Ring
-dropped r = withDropped (r .counts .dropped + 1) (pop r)
+abbrev pub drop : Ring → Ring
+drop r = withDropped (r .counts .dropped + 1) (pop r)
 
--- "it becomes n UPDATE, overwritten grows by n's used, n's used becomes 0, all in one step; PROMOTE (t, n, own)."
-abbrev pub marked : PageNo → PageNo → Ring → Ring
-marked t n r =
+-- "it becomes n UPDATE, overwritten grows by n's used, n's used becomes 0, all in one step ...; PROMOTE (t, n, own)."
+abbrev pub mark : PageNo → PageNo → Ring → Ring
+mark t n r =
     withOverwritten (r .counts .overwritten + usedAt (r .used) n)
     (setUsed n 0 (setWord t (wordOf n update) (setPhase (phase.Promote t n true) r)))
 
 -- "n's word becomes HEADER, same page"
-abbrev pub promoted : PageNo → WriterPhase → Ring → Ring
-promoted n next r = setWord n (wordOf (pageIn (wordAt (r .words) n)) header) (setPhase next r)
+abbrev pub promote : PageNo → WriterPhase → Ring → Ring
+promote n next r = setWord n (wordOf (pageIn (wordAt (r .words) n)) header) (setPhase next r)
 
 -- "t's word ... becomes n NORMAL ...; PUSH."
-abbrev pub cleared : PageNo → PageNo → Ring → Ring
-cleared t n r = setWord t (wordOf n normal) (setPhase (phase.Push t n) r)
+abbrev pub clear : PageNo → PageNo → Ring → Ring
+clear t n r = setWord t (wordOf n normal) (setPhase (phase.Push t n) r)
 
 -- "the tail page ... becomes n ... Then WANT."
-abbrev pub pushed : PageNo → Ring → Ring
-pushed n r = withTail n (setPhase phase.Want r)
+abbrev pub push : PageNo → Ring → Ring
+push n r = withTail n (setPhase phase.Want r)
 
 -- "HELD: the value goes into the slot; phase FILLED."
-abbrev pub filled : PageNo → ℕ → Ring → Ring
-filled p slot r = setValue p slot (top r .value) (setPhase phase.Filled r)
+abbrev pub fill : PageNo → ℕ → Ring → Ring
+fill p slot r = setValue p slot (top r .value) (setPhase phase.Filled r)
 
--- "the commit page becomes the tail page, the commit index that page's used, committed becomes taken"
-abbrev pub committed : Ring → Ring
-committed r =
+-- "the commit page becomes the tail page, the commit index that page's used, committed becomes taken".
+-- "Only a commit by the outermost writer moves the commit position."
+abbrev pub commit : Ring → Ring
+commit r =
     withCommitPage (r .places .tail)
     (withCommitIndex (usedAt (r .used) (r .places .tail)) (withCommitted (r .counts .taken) (pop r)))
 
 abbrev pub moved : Move → Ring → Outcome
 moved (Become next a) r = gives a (setPhase next r)
-moved (Reserve t slot) r = gives (answer.Reserved (reading (r .counts .taken))) (reserved t slot r)
-moved Drop r = gives answer.Dropped (dropped r)
-moved (Mark t n) r = gives answer.Marked (marked t n r)
-moved (Promote n next) r = gives answer.Promoted (promoted n next r)
-moved (Clear t n) r = gives answer.Cleared (cleared t n r)
-moved (Push n) r = gives answer.Pushed (pushed n r)
-moved (Fill p slot) r = gives answer.Filled (filled p slot r)
+moved (Reserve t slot) r = gives (answer.Reserved (reading (r .counts .taken))) (reserve t slot r)
+moved Drop r = gives answer.Dropped (drop r)
+moved (Mark t n) r = gives answer.Marked (mark t n r)
+moved (Promote n next) r = gives answer.Promoted (promote n next r)
+moved (Clear t n) r = gives answer.Cleared (clear t n r)
+moved (Push n) r = gives answer.Pushed (push n r)
+moved (Fill p slot) r = gives answer.Filled (fill p slot r)
 moved Pend r = gives answer.Pending (pop r)
-moved Commit r = gives (answer.Committed (r .counts .taken)) (committed r)
+moved Commit r = gives (answer.Committed (r .counts .taken)) (commit r)
 
 -- ---- the action
 abbrev pub writeRule : Ring → Outcome

@@ -4,7 +4,7 @@ ghost use Rattle.ring.specs.Answers.{outcome};
 ghost use Rattle.ring.specs.Refusals.{beginVerdict};
 ghost use Rattle.ring.specs.Begin.{beginRule};
 use crate::moves::Verdict;
-use crate::shape::fits;
+use crate::shape::pieces_fit;
 use crate::state::Answer;
 use crate::state::Refusal;
 use crate::state::Ring;
@@ -38,7 +38,7 @@ impl Ring {
         let reader = self.reader;
         let stack = self.stack;
         let depth = self.depth;
-        let fit = fits(
+        let fit = pieces_fit(
             size,
             places,
             counts,

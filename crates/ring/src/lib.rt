@@ -1,7 +1,7 @@
 // A ring of readings for climate loggers, as a machine of single steps. Each action takes the ring by value and gives it back with an
 // answer; nothing is kept elsewhere. The rules are definitions in specs/, and each function's contract is an equation with one of them.
 pub mod state; // the ring and its parts
-pub mod moves; // what a Write or a Read decides before it stores
+pub mod moves; // what an action decides before it stores
 pub mod answers; // refusals by number
 pub mod words; // link words, split and joined
 pub mod shape; // the test of shape

@@ -1,4 +1,4 @@
-// What a Write or a Read decides from the pieces of the ring, before anything is stored.
+// What an action decides from the pieces of the ring, before anything is stored.
 use crate::state::Answer;
 use crate::state::PageNo;
 use crate::state::Refusal;
@@ -11,7 +11,7 @@ pub enum Verdict {
 }
 
 // The lowest page p other than the reader page whose word is HEADER, with the page h in that word.
-pub enum Header {
+pub enum Search {
     // p, h
     At(PageNo, PageNo),
     Nowhere,

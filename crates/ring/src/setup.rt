@@ -104,7 +104,7 @@ impl Ring {
     }
 
     // The fresh ring of a size.
-    fn made(size: Size) -> Ring
+    fn fresh_ring(size: Size) -> Ring
         ensures { λ r. ⌜ r ≡ freshRing size ⌝ }
     {
         let words = fresh_words(size.pages);
@@ -121,7 +121,7 @@ impl Ring {
     pub fn plain() -> Ring
         ensures { λ r. ⌜ r ≡ plainRing ⌝ }
     {
-        Ring::made(Size {
+        Ring::fresh_ring(Size {
             pages: Ring::PLAIN_PAGES,
             slots: Ring::PLAIN_SLOTS,
             mode: Ring::PLAIN_MODE,
@@ -135,7 +135,7 @@ impl Ring {
     {
         let size = Size { pages, slots, mode };
         if size_fits(size) {
-            let ring = Ring::made(size);
+            let ring = Ring::fresh_ring(size);
             return Step {
                 ring,
                 answer: Answer::Accepted,

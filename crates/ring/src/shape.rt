@@ -1,5 +1,5 @@
-// The test of shape. Each clause has a function of its own, over the pieces that it reads: the ring itself is never passed to a test.
-// Tests are joined by `&`, since none of them can fail, and a loop goes through all of its places.
+// The test of shape. Each clause has a function of its own, over the pieces that it reads, so that an action need not pass the ring to it.
+// Tests are joined by `&`, since none of them can trap, and a loop goes through all of its places.
 ghost use mathlib.Core.Path.{_≡_};
 ghost use Prim.Native.Nat.{_≤_};
 ghost use Rattle.ring.specs.Shape.{sizeFits, placesFit, countsSmall, countsFit, pagesFit, heldFits, writerFits, readerFits, stackFits, wordFits, wordsFit, usedFit, piecesFit, inShape};
@@ -117,7 +117,7 @@ fn word_fits(w: u32, n: u32) -> bool
     ensures { λ r. ⌜ r ≡ wordFits w n ⌝ }
 {
     let p = page_in(w);
-    (p.0 <= n) & (flag_in(w) != 3)
+    (p.0 <= n) & (flag_in(w) != Ring::BOTH_FLAGS)
 }
 
 fn words_fit(words: &[u32; 17], n: u32) -> bool
@@ -150,7 +150,7 @@ fn used_fit(used: &[u32; 17], n: u32, slots: u32) -> bool
 }
 
 // All of the ring but its slots: their numbers are 32 bits wide, so that they meet their limit by their type.
-pub fn fits<'a>(
+pub fn pieces_fit<'a>(
     size: Size,
     places: Places,
     counts: Counts,
@@ -186,7 +186,7 @@ impl Ring {
         let reader = self.reader;
         let stack = self.stack;
         let depth = self.depth;
-        fits(
+        pieces_fit(
             size,
             places,
             counts,

@@ -96,7 +96,7 @@ pub enum Refusal {
     SetUp,
 }
 
-// What an action answers.
+// What an action or a set-up answers.
 pub enum Answer {
     // a set-up that is not refused
     Accepted,
@@ -183,4 +183,6 @@ impl Ring {
     pub const HEADER: u32 = 1;
 
     pub const UPDATE: u32 = 2;
+
+    pub const BOTH_FLAGS: u32 = 3;
 }

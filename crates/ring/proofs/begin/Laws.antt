@@ -17,8 +17,8 @@ refused-is-not-allowed why h = let z : _≡_ {A = ℕ} 0 1 = cc in omega arith
 
 pub record Allows (fits : Bool) (depth begun : ℕ) : Type 0 where
   pub shape : fits ≡ true
-  pub room : depth ≡ mostDepth → ⊥
-  pub fresh : begun ≡ mostCount → ⊥
+  pub not-deep : depth ≡ mostDepth → ⊥
+  pub not-worn : begun ≡ mostCount → ⊥
 
 pub allows : (fits : Bool) (depth begun : ℕ) → beginVerdict fits depth begun ≡ Allowed → Allows fits depth begun
 allows false depth begun h = absurd (refused-is-not-allowed _ h)
@@ -28,4 +28,4 @@ allows true depth begun h =
     (λ d.
     by-bool (eqb begun mostCount)
     (λ b. absurd (refused-is-not-allowed _ (rw (d, b) at h)))
-    (λ b. record { shape = refl; room = eqb-false depth mostDepth d; fresh = eqb-false begun mostCount b }))
+    (λ b. record { shape = refl; not-deep = eqb-false depth mostDepth d; not-worn = eqb-false begun mostCount b }))

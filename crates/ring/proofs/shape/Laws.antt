@@ -2,7 +2,7 @@
 -- and the slots' numbers, whose bound comes from their width.
 -- Assumes nothing.
 use mathlib.Core.Path.{_≡_}
-use mathlib.Core.Bool.{Bool, true, and-true}
+use mathlib.Core.Bool.{true, and-true}
 use Prim.Native.Nat.{ℕ, _+_, _≤_, _<_}
 use native.Mathlib.Omega.{arith}
 use borrow.Author.Tests.{leb-true, le-leb}
@@ -13,15 +13,11 @@ use lib.ListN.{getD}
 use Rattle.ring.specs.Limits.{leastPages, mostPages, leastSlots, mostSlots, mostDepth, mostCount, stop}
 use Rattle.ring.specs.Lists.{allBelow}
 use Rattle.ring.specs.State.{page, usedAt}
-use Rattle.ring.specs.Shape.{sizeTests, placeTests, smallTests, countsSmall, agreeTests, countsAgree, readerFits, recordFitsAt, wordFitsAt, usedFitsAt, numberFits, numbersFit, pieceTests, piecesFit, inShape}
+use Rattle.ring.specs.Shape.{sizeTests, placeTests, smallTests, countsSmall, agreeTests, countsAgree, readerFits, recordFitsAt, wordFitsAt, usedFitsAt, numberFits, numbersFit, pieceTests, piecesFit, ringFits, inShape}
 use Rattle.ring.specs.declared.state.Ring.{Ring}
 use Rattle.ring.proofs.Lists.{each, and-left, and-right, allBelow-at, all-getD}
 
--- what the code tests, of a ring
-abbrev pub tested : Ring → Bool
-tested r = piecesFit (r .size) (r .places) (r .counts) (r .reader) (r .stack) (r .depth) (r .words) (r .used)
-
-pub record Shape (r : Ring) : Type 0 where
+pub record InShape (r : Ring) : Type 0 where
   pub pages-least : leastPages ≤ r .size .pages
   pub pages-most : r .size .pages ≤ mostPages
   pub slots-least : leastSlots ≤ r .size .slots
@@ -38,9 +34,9 @@ pub record Shape (r : Ring) : Type 0 where
   pub handed : r .counts .handed ≤ mostCount
   pub overwritten : r .counts .overwritten ≤ mostCount
   pub dropped : r .counts .dropped ≤ mostCount
-  pub gone : r .counts .handed + r .counts .overwritten ≤ r .counts .committed
-  pub uncommitted : r .counts .committed ≤ r .counts .taken
-  pub told : r .counts .taken + r .counts .dropped ≤ r .counts .begun
+  pub handed-overwritten : r .counts .handed + r .counts .overwritten ≤ r .counts .committed
+  pub committed-taken : r .counts .committed ≤ r .counts .taken
+  pub taken-dropped : r .counts .taken + r .counts .dropped ≤ r .counts .begun
   pub phase : readerFits (r .reader .phase) (r .size) ≡ true
   pub depth : r .depth ≤ mostDepth
   pub record-at : (i : ℕ) → i < r .depth → recordFitsAt (r .stack) (r .size) i ≡ true
@@ -48,9 +44,9 @@ pub record Shape (r : Ring) : Type 0 where
   pub used-at : (p : ℕ) → p ≤ r .size .pages → usedAt (r .used) (page p) ≤ r .size .slots
 
 module _ (r : Ring) where
-  pub shape : tested r ≡ true → Shape r
+  pub in-shape : ringFits r ≡ true → InShape r
   unfolding piecesFit
-  shape h =
+  in-shape h =
       let e = each (pieceTests (r .size) (r .places) (r .counts) (r .reader) (r .stack) (r .depth) (r .words) (r .used)) h in
       let s = each (sizeTests (r .size)) (e .0) in
       let p = each (placeTests (r .places) (r .size)) (e .1 .0) in
@@ -76,9 +72,9 @@ module _ (r : Ring) where
         handed = leb-true _ _ (k .1 .1 .1 .0);
         overwritten = leb-true _ _ (k .1 .1 .1 .1 .0);
         dropped = leb-true _ _ (k .1 .1 .1 .1 .1 .0);
-        gone = leb-true _ _ (a .0);
-        uncommitted = leb-true _ _ (a .1 .0);
-        told = leb-true _ _ (a .1 .1 .0);
+        handed-overwritten = leb-true _ _ (a .0);
+        committed-taken = leb-true _ _ (a .1 .0);
+        taken-dropped = leb-true _ _ (a .1 .1 .0);
         phase = e .1 .1 .1 .0;
         depth = leb-true _ _ (and-left (leb (r .depth) mostDepth) (allBelow (r .depth) (recordFitsAt (r .stack) (r .size))) d);
         record-at = λ i l. allBelow-at (recordFitsAt (r .stack) (r .size)) (r .depth) i records l;
@@ -92,6 +88,6 @@ module _ (r : Ring) where
   numbers-fit h = all-getD numberFits (r .numbers) (λ i. le-leb (getD (r .numbers) i 0) mostCount (omega (arith, h i)))
 
   -- so what the code tests is the whole definition
-  pub tested-all : ((i : ℕ) → Fits w32 (getD (r .numbers) i 0)) → tested r ≡ inShape r
+  pub ringFits-inShape : ((i : ℕ) → Fits w32 (getD (r .numbers) i 0)) → ringFits r ≡ inShape r
   unfolding inShape
-  tested-all h = rw (numbers-fit h, and-true)
+  ringFits-inShape h = rw (numbers-fit h, and-true)

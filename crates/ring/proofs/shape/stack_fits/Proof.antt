@@ -4,7 +4,7 @@ use native.Mathlib.Omega.{arith}
 use borrow.Author.Needs.{needs}
 use borrow.Author.Tests.{le-leb, lt-leb}
 use Rattle.ring.specs.Shape.{recordFitsAt}
-use Rattle.ring.proofs.Lists.{Tested, tested-none, tested-more, tested-all}
+use Rattle.ring.proofs.Lists.{Tested, tested-none, tested-more, tested-end}
 use Rattle.ring.proofs.shape.stack_fits.Statement.{statement}
 use Rattle.ring.proofs.shape.stack_fits.Tie as tie
 
@@ -18,7 +18,7 @@ loop-again : tie.Need-loop-again Inv-loop μ-loop
 loop-again c = (search needs, tested-more (c .before .before .before .loop .inv .1) (c .writer-fits .ensures))
 
 returns-2 : tie.Need-returns-2 Inv-loop μ-loop
-returns-2 c = rw (le-leb _ _ (c .before .before .if1 .left)) (tested-all (c .before .before .before .args .depth) (c .before .loop .inv .1) (omega arith))
+returns-2 c = rw (le-leb _ _ (c .before .before .if1 .left)) (tested-end (c .before .before .before .args .depth) (c .before .loop .inv .1) (omega arith))
 
 pub stack-fits-spec : {M : Type 1} → statement M
 stack-fits-spec =

@@ -4,7 +4,7 @@ use Prim.Native.Nat.{_+_, _-_, _≤_}
 use native.Mathlib.Omega.{arith}
 use borrow.Author.Needs.{needs}
 use Rattle.ring.specs.Shape.{usedFitsAt}
-use Rattle.ring.proofs.Lists.{Tested, tested-none, tested-more, tested-all}
+use Rattle.ring.proofs.Lists.{Tested, tested-none, tested-more, tested-end}
 use Rattle.ring.proofs.shape.used_fit.Statement.{statement}
 use Rattle.ring.proofs.shape.used_fit.Tie as tie
 
@@ -18,7 +18,7 @@ loop-again : tie.Need-loop-again Inv-loop μ-loop
 loop-again c = (search needs, tested-more (c .before .before .loop .inv .1) refl)
 
 returns : tie.Need-returns Inv-loop μ-loop
-returns c = tested-all (c .before .before .args .n + 1) (c .before .loop .inv .1) (omega arith)
+returns c = tested-end (c .before .before .args .n + 1) (c .before .loop .inv .1) (omega arith)
 
 pub used-fit-spec : {M : Type 1} → statement M
 used-fit-spec =

@@ -1,4 +1,4 @@
--- `Ring::begin` is the rule. The verdict is that of the definition, since `fits` tests all of the shape but the slots' numbers, and those
+-- `Ring::begin` is the rule. The verdict is that of the definition, since `pieces_fit` tests all of the shape but the slots' numbers, and those
 -- are 32 bits wide. Where it is Allowed, depth is below 4 and begun below its limit, so the sums fit. Assumes nothing.
 use mathlib.Core.Path.{_≡_, sym, ap, _∙_}
 use mathlib.Core.Bool.{Bool}
@@ -11,7 +11,7 @@ use lib.ListN.{getD}
 use Rattle.ring.specs.Shape.{inShape}
 use Rattle.ring.specs.Refusals.{beginVerdict}
 use Rattle.ring.specs.declared.state.Ring.{Ring}
-use Rattle.ring.proofs.shape.Laws.{Shape, shape, tested-all}
+use Rattle.ring.proofs.shape.Laws.{InShape, in-shape, ringFits-inShape}
 use Rattle.ring.proofs.begin.Laws.{Allows, allows}
 use Rattle.ring.proofs.state.Ring.begin.Statement.{statement}
 use Rattle.ring.proofs.state.Ring.begin.Tie as tie
@@ -24,10 +24,10 @@ abbrev self : tie.After-begin-verdict → Ring
 self c = c .before .before .before .before .before .before .before .before .before .before .args .t1
 
 -- the code's test is the definition's
-fitting : (c : tie.After-begin-verdict) → c .before .fits2 .result ≡ inShape (self c)
+fitting : (c : tie.After-begin-verdict) → c .before .pieces-fit .result ≡ inShape (self c)
 fitting c =
-    c .before .fits2 .ensures
-    ∙ tested-all (self c) (narrow (c .before .before .before .before .before .before .before .before .before .before))
+    c .before .pieces-fit .ensures
+    ∙ ringFits-inShape (self c) (narrow (c .before .before .before .before .before .before .before .before .before .before))
 
 -- and so is its verdict
 verdict : (c : tie.After-begin-verdict) → c .begin-verdict .result ≡ beginVerdict (inShape (self c)) (self c .depth) (self c .counts .begun)
@@ -38,8 +38,8 @@ verdict c =
 allowed : (c : tie.After-enum-told) → Allows (inShape (self (c .before .before))) (self (c .before .before) .depth) (self (c .before .before) .counts .begun)
 allowed c = allows _ _ _ (sym (verdict (c .before .before)) ∙ c .enum-told .given .1)
 
-shaped : (c : tie.After-enum-told) → Shape (self (c .before .before))
-shaped c = shape (self (c .before .before)) (sym (c .before .before .before .fits2 .ensures) ∙ fitting (c .before .before) ∙ allowed c .shape)
+shaped : (c : tie.After-enum-told) → InShape (self (c .before .before))
+shaped c = in-shape (self (c .before .before)) (sym (c .before .before .before .pieces-fit .ensures) ∙ fitting (c .before .before) ∙ allowed c .shape)
 
 returns : tie.Need-returns
 returns c = rw (sym (verdict (c .before .before .before)) ∙ c .before .verdict .given .1)

@@ -5,7 +5,7 @@ use Rattle.ring.proofs.state.Ring.fresh.Statement.{statement}
 use Rattle.ring.proofs.state.Ring.fresh.Tie as tie
 
 returns : tie.Need-returns
-returns c = rw (sym (c .before .before .size-fits .ensures) ∙ c .before .if1 .taken, c .made .ensures)
+returns c = rw (sym (c .before .before .size-fits .ensures) ∙ c .before .if1 .taken, c .fresh-ring .ensures)
 
 returns-2 : tie.Need-returns-2
 returns-2 c = rw (sym (c .before .before .size-fits .ensures) ∙ c .before .if1 .left, c .plain .ensures)

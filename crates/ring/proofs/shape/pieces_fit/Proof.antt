@@ -1,12 +1,12 @@
--- `shape::fits` is the definition: the tests of the pages and slots are made once N is known to be at most 16. Assumes nothing.
+-- `shape::pieces_fit` is the definition: the words and used of pages 0 to N are tested once N is known to be at most 16. Assumes nothing.
 use mathlib.Core.Path.{sym, _∙_}
 use native.Mathlib.Omega.{arith}
 use borrow.Author.Needs.{needs}
 use borrow.Author.Tests.{leb-true}
 use Rattle.ring.specs.Shape.{sizeTests, piecesFit}
 use Rattle.ring.proofs.Lists.{Each, each}
-use Rattle.ring.proofs.shape.fits.Statement.{statement}
-use Rattle.ring.proofs.shape.fits.Tie as tie
+use Rattle.ring.proofs.shape.pieces_fit.Statement.{statement}
+use Rattle.ring.proofs.shape.pieces_fit.Tie as tie
 
 sized : (c : tie.Then1) → Each (sizeTests (c .before .before .args .size))
 sized c = each (sizeTests (c .before .before .args .size)) (sym (c .before .size-fits .ensures) ∙ c .if1 .taken)
@@ -27,8 +27,8 @@ returns-2 : tie.Need-returns-2
 unfolding piecesFit
 returns-2 c = rw (sym (c .before .size-fits .ensures) ∙ c .if1 .left)
 
-pub fits-spec : {M : Type 1} → statement M
-fits-spec =
+pub pieces-fit-spec : {M : Type 1} → statement M
+pieces-fit-spec =
     tie.close
     (tie.spec
     (λ c κs. search needs)
