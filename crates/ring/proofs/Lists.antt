@@ -31,6 +31,9 @@ pub and-right : (a b : Bool) → a && b ≡ true → b ≡ true
 and-right true b h = h
 and-right false b h = absurd (true≢false (sym h))
 
+pub and-both : {a b : Bool} → a ≡ true → b ≡ true → a && b ≡ true
+and-both h e = rw h e
+
 -- each test of a list passes
 abbrev pub Each : List Bool → Type 0
 Each [] = Unit {0}
@@ -46,6 +49,14 @@ pub each : (bs : List Bool) → every bs ≡ true → Each bs
 each [] h = tt
 each (b ∷ bs) h = each-from b bs h
 
+every-from : (a : Bool) (bs : List Bool) → a ≡ true → Each bs → andThen a bs ≡ true
+every-from a [] h e = h
+every-from a (b ∷ bs) h e = every-from (a && b) bs (and-both h (e .0)) (e .1)
+
+pub every-each : (bs : List Bool) → Each bs → every bs ≡ true
+every-each [] e = refl
+every-each (b ∷ bs) e = every-from b bs (e .0) (e .1)
+
 -- ---- tests of every number below a bound, and of every element
 
 module _ (f : ℕ → Bool) where
@@ -55,6 +66,10 @@ module _ (f : ℕ → Bool) where
       by-eq i m
       (λ q. rw q (and-right (allBelow m f) (f m) h))
       (λ n. allBelow-at m i (and-left (allBelow m f) (f m) h) (omega arith))
+
+  pub allBelow-all : (m : ℕ) → ((i : ℕ) → i < m → f i ≡ true) → allBelow m f ≡ true
+  allBelow-all zero h = refl
+  allBelow-all (suc m) h = rw (allBelow-all m (λ i l. h i (omega arith))) (h m (omega arith))
 
   pub all-getD : (xs : List ℕ) → ((i : ℕ) → f (getD xs i 0) ≡ true) → all f xs ≡ true
   all-getD [] h = refl

@@ -1,6 +1,6 @@
 -- The receipt.
 -- Assumes nothing.
-use mathlib.Core.Bool.{false, cond}
+use mathlib.Core.Bool.{true, false, cond}
 use Prim.Native.Nat.{_-_}
 use lib.Dec.{eqb}
 use Rattle.ring.specs.Answers.{numberOf}
@@ -43,3 +43,18 @@ refusedReceipt =
 
 abbrev pub receiptRule : Ring → Receipt
 receiptRule r = cond (inShape r) (receiptOf (r .counts)) refusedReceipt
+
+-- "A fresh ring is complete, 0 of 0."
+abbrev pub freshReceipt : Receipt
+freshReceipt =
+    record {
+      refusal = 0;
+      begun = 0;
+      taken = 0;
+      handed = 0;
+      overwritten = 0;
+      dropped = 0;
+      waiting = 0;
+      «open» = 0;
+      complete = true;
+    }

@@ -5,13 +5,14 @@ use mathlib.Core.Bool.{Bool, true, false, cond}
 use mathlib.Core.List.{List}
 use Prim.Native.Nat.{ℕ, _+_, _≤_, _<_}
 use native.Mathlib.Omega.{arith}
+use borrow.Author.Tests.{ltb-true}
 use lib.Dec.{eqb, ltb}
 use lib.ListN.{length, getD, set, length-set}
 use lib.Seq.{ext-getD, getD-set-same, getD-set-other}
 use Rattle.ring.specs.Limits.{pageRoom}
 use Rattle.ring.specs.Lists.{tabulate}
 use Rattle.ring.specs.SetUp.{freshNext, freshFlag, freshWord, freshWords}
-use Rattle.ring.proofs.Lists.{by-eq, length-tabulate, getD-tabulate}
+use Rattle.ring.proofs.Lists.{by-bool, by-eq, length-tabulate, getD-tabulate}
 
 cond-most : (b : Bool) (x m : ℕ) → x ≤ m → cond b x 0 ≤ m
 cond-most true x m h = h
@@ -19,6 +20,12 @@ cond-most false x m h = omega arith
 
 pub freshNext-most : (n i : ℕ) → freshNext n i ≤ i + 1
 freshNext-most n i = cond-most (ltb (i + 1) n) (i + 1) (i + 1) (omega arith)
+
+pub freshNext-pages : (n i : ℕ) → freshNext n i ≤ n
+freshNext-pages n i =
+    by-bool (ltb (i + 1) n)
+    (λ e. rw e (omega (arith, ltb-true (i + 1) n e)))
+    (λ e. rw e (omega arith))
 
 pub freshFlag-most : (n i : ℕ) → freshFlag n i ≤ 1
 freshFlag-most n i = cond-most (eqb (i + 1) n) 1 1 (omega arith)
