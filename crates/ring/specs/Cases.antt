@@ -3,14 +3,14 @@
 -- not change when each answer and each fact in it is replaced by what the rules give.
 -- Assumes nothing.
 use mathlib.Core.Path.{_≡_}
-use mathlib.Core.Bool.{Bool, false}
+use mathlib.Core.Bool.{false}
 use mathlib.Core.List.{List, [], _∷_}
 use Prim.Native.Nat.{ℕ, _+_}
 use lib.ListN.{take}
 use Rattle.ring.specs.State.{reading}
 use Rattle.ring.specs.Answers.{Outcome}
 use Rattle.ring.specs.SetUp.{freshRule}
-use Rattle.ring.specs.Receipt.{receiptRule}
+use Rattle.ring.specs.Receipt.{receipt, receiptRule}
 use Rattle.ring.specs.Act.{act}
 use Rattle.ring.specs.declared.state.Action.{Action}
 use Rattle.ring.specs.declared.state.Action.the-variants.{Begin, Write, Read}
@@ -101,20 +101,6 @@ Holds cases = allRuled cases ≡ cases
 
 -- ---- the table
 
-abbrev pub receipt : ℕ → ℕ → ℕ → ℕ → ℕ → ℕ → ℕ → Bool → Receipt
-receipt begun taken handed overwritten dropped waiting «open» complete =
-    record {
-      refusal = 0;
-      begun = begun;
-      taken = taken;
-      handed = handed;
-      overwritten = overwritten;
-      dropped = dropped;
-      waiting = waiting;
-      «open» = «open»;
-      complete = complete;
-    }
-
 -- "N = 2, S = 1, overwrite."
 abbrev pub small : List Row → Case
 small rows = from 2 1 0 rows
@@ -148,7 +134,7 @@ k1-to-k8 =
     ∷ row (Write ∷ Write ∷ []) (Filled ∷ Committed 3 ∷ []) []
     ∷ row (Read ∷ Read ∷ []) (Found ∷ Prepared ∷ []) (Words (8 ∷ 9 ∷ 1 ∷ []) ∷ [])
     ∷ row (Read ∷ []) (Swapped ∷ []) (Words (8 ∷ 9 ∷ 4 ∷ []) ∷ [])
-    ∷ row (Read ∷ []) (Event (reading 2) 72 ∷ []) (ReceiptIs (receipt 3 3 2 1 0 0 0 false) ∷ [])
+    ∷ row (Read ∷ []) (Event (reading 2) 72 ∷ []) (ReceiptIs (receipt 0 3 3 2 1 0 0 0 false) ∷ [])
     ∷ [])
 
 -- "Each from fresh again"

@@ -1,7 +1,7 @@
 -- The receipt.
 -- Assumes nothing.
-use mathlib.Core.Bool.{true, false, cond}
-use Prim.Native.Nat.{_-_}
+use mathlib.Core.Bool.{Bool, true, false, cond}
+use Prim.Native.Nat.{ℕ, _-_}
 use lib.Dec.{eqb}
 use Rattle.ring.specs.Answers.{numberOf}
 use Rattle.ring.specs.Shape.{inShape}
@@ -10,51 +10,45 @@ use Rattle.ring.specs.declared.state.Refusal.the-variants.{Shape}
 use Rattle.ring.specs.declared.state.Receipt.{Receipt}
 use Rattle.ring.specs.declared.state.Ring.{Ring}
 
--- "Begun, taken, handed, overwritten, dropped; waiting = committed − handed − overwritten; open = taken − committed.
--- Complete exactly when begun = handed."
+-- the refusal's number, the seven counts in the paper's order, and complete
+abbrev pub receipt : ℕ → ℕ → ℕ → ℕ → ℕ → ℕ → ℕ → ℕ → Bool → Receipt
+receipt refusal begun taken handed overwritten dropped waiting «open» complete =
+    record {
+      refusal = refusal;
+      begun = begun;
+      taken = taken;
+      handed = handed;
+      overwritten = overwritten;
+      dropped = dropped;
+      waiting = waiting;
+      «open» = «open»;
+      complete = complete;
+    }
+
+-- "waiting = committed − handed − overwritten"
+abbrev pub waiting : Counts → ℕ
+waiting c = c .committed - c .handed - c .overwritten
+
+-- "open = taken − committed"
+abbrev pub uncommitted : Counts → ℕ
+uncommitted c = c .taken - c .committed
+
+-- "Complete exactly when begun = handed."
+abbrev pub complete : Counts → Bool
+complete c = eqb (c .begun) (c .handed)
+
+-- "Begun, taken, handed, overwritten, dropped; waiting ...; open ..."
 abbrev pub receiptOf : Counts → Receipt
 receiptOf c =
-    record {
-      refusal = 0;
-      begun = c .begun;
-      taken = c .taken;
-      handed = c .handed;
-      overwritten = c .overwritten;
-      dropped = c .dropped;
-      waiting = c .committed - c .handed - c .overwritten;
-      «open» = c .taken - c .committed;
-      complete = eqb (c .begun) (c .handed);
-    }
+    receipt 0 (c .begun) (c .taken) (c .handed) (c .overwritten) (c .dropped) (waiting c) (uncommitted c) (complete c)
 
 -- refusal 1: "receipt all zero, not complete"
 abbrev pub refusedReceipt : Receipt
-refusedReceipt =
-    record {
-      refusal = numberOf Shape;
-      begun = 0;
-      taken = 0;
-      handed = 0;
-      overwritten = 0;
-      dropped = 0;
-      waiting = 0;
-      «open» = 0;
-      complete = false;
-    }
+refusedReceipt = receipt (numberOf Shape) 0 0 0 0 0 0 0 false
 
 abbrev pub receiptRule : Ring → Receipt
 receiptRule r = cond (inShape r) (receiptOf (r .counts)) refusedReceipt
 
 -- "A fresh ring is complete, 0 of 0."
 abbrev pub freshReceipt : Receipt
-freshReceipt =
-    record {
-      refusal = 0;
-      begun = 0;
-      taken = 0;
-      handed = 0;
-      overwritten = 0;
-      dropped = 0;
-      waiting = 0;
-      «open» = 0;
-      complete = true;
-    }
+freshReceipt = receipt 0 0 0 0 0 0 0 0 true
