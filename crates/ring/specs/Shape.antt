@@ -136,25 +136,23 @@ numberFits number = leb number mostCount
 unfoldable pub numbersFit : List ℕ → Bool
 numbersFit numbers = all numberFits numbers
 
--- all of it but the slots' numbers, of the ring's pieces
-abbrev pub pieceTests : Size → Places → Counts → Reader → List Writer → ℕ → List ℕ → List ℕ → List Bool
-pieceTests size places counts reader stack depth words used =
+-- where things stand: all of it but the counts and the slots' numbers. A step may take a count past its limit; this it keeps.
+abbrev pub layoutTests : Size → Places → Reader → List Writer → ℕ → List ℕ → List ℕ → List Bool
+layoutTests size places reader stack depth words used =
     sizeFits size
     ∷ placesFit places size
-    ∷ countsFit counts
     ∷ readerFits (reader .phase) size
     ∷ stackFits stack depth size
     ∷ wordsFit words (size .pages)
     ∷ usedFit used (size .pages) (size .slots)
     ∷ []
 
-unfoldable pub piecesFit : Size → Places → Counts → Reader → List Writer → ℕ → List ℕ → List ℕ → Bool
-piecesFit size places counts reader stack depth words used =
-    every (pieceTests size places counts reader stack depth words used)
+unfoldable pub layoutFits : Size → Places → Reader → List Writer → ℕ → List ℕ → List ℕ → Bool
+layoutFits size places reader stack depth words used = every (layoutTests size places reader stack depth words used)
 
--- the same of a ring: what the code tests
+-- all of it but the slots' numbers: what the code tests
 abbrev pub ringFits : Ring → Bool
-ringFits r = piecesFit (r .size) (r .places) (r .counts) (r .reader) (r .stack) (r .depth) (r .words) (r .used)
+ringFits r = countsFit (r .counts) && layoutFits (r .size) (r .places) (r .reader) (r .stack) (r .depth) (r .words) (r .used)
 
 -- "In shape"
 unfoldable pub inShape : Ring → Bool

@@ -4,7 +4,8 @@ ghost use Rattle.ring.specs.Answers.{outcome};
 ghost use Rattle.ring.specs.Refusals.{beginVerdict};
 ghost use Rattle.ring.specs.Begin.{beginRule};
 use crate::moves::Verdict;
-use crate::shape::pieces_fit;
+use crate::shape::counts_fit;
+use crate::shape::layout_fits;
 use crate::state::Answer;
 use crate::state::Refusal;
 use crate::state::Ring;
@@ -38,16 +39,8 @@ impl Ring {
         let reader = self.reader;
         let stack = self.stack;
         let depth = self.depth;
-        let fit = pieces_fit(
-            size,
-            places,
-            counts,
-            reader,
-            stack,
-            depth,
-            &self.words,
-            &self.used,
-        );
+        let fit = counts_fit(counts)
+            & layout_fits(size, places, reader, stack, depth, &self.words, &self.used);
         let verdict = begin_verdict(fit, depth, counts.begun);
         if let Verdict::Refused(why) = verdict {
             return Step {

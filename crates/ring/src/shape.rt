@@ -2,7 +2,7 @@
 // Tests are joined by `&`, since none of them can trap, and a loop goes through all of its places.
 ghost use mathlib.Core.Path.{_≡_};
 ghost use Prim.Native.Nat.{_≤_};
-ghost use Rattle.ring.specs.Shape.{sizeFits, placesFit, countsSmall, countsFit, pagesFit, heldFits, writerFits, readerFits, stackFits, wordFits, wordsFit, usedFit, piecesFit, inShape};
+ghost use Rattle.ring.specs.Shape.{sizeFits, placesFit, countsSmall, countsFit, pagesFit, heldFits, writerFits, readerFits, stackFits, wordFits, wordsFit, usedFit, layoutFits, inShape};
 use crate::state::Counts;
 use crate::state::PageNo;
 use crate::state::Places;
@@ -47,7 +47,7 @@ fn counts_small(c: Counts) -> bool
 }
 
 // The sums are taken only of counts that are small, so that they do not wrap.
-fn counts_fit(c: Counts) -> bool
+pub fn counts_fit(c: Counts) -> bool
     ensures { λ r. ⌜ r ≡ countsFit c ⌝ }
 {
     if counts_small(c) {
@@ -149,23 +149,21 @@ fn used_fit(used: &[u32; 17], n: u32, slots: u32) -> bool
     ok
 }
 
-// All of the ring but its slots: their numbers are 32 bits wide, so that they meet their limit by their type.
-pub fn pieces_fit<'a>(
+// All of the shape but the counts and the slots: where things stand. An action keeps it, while a count may be taken past its limit.
+pub fn layout_fits<'a>(
     size: Size,
     places: Places,
-    counts: Counts,
     reader: Reader,
     stack: [Writer; 4],
     depth: u32,
     words: &'a [u32; 17],
     used: &'a [u32; 17],
 ) -> bool
-    ensures { λ r. ⌜ r ≡ piecesFit size places counts reader stack depth (now (words .entry)) (now (used .entry)) ⌝ }
+    ensures { λ r. ⌜ r ≡ layoutFits size places reader stack depth (now (words .entry)) (now (used .entry)) ⌝ }
 {
     if size_fits(size) {
         let phase = reader.phase;
         places_fit(places, size)
-            & counts_fit(counts)
             & reader_fits(phase, size)
             & stack_fits(stack, depth, size)
             & words_fit(words, size.pages)
@@ -176,25 +174,16 @@ pub fn pieces_fit<'a>(
 }
 
 impl Ring {
-    // Whether the ring is in shape.
+    // Whether the ring is in shape. The slots' numbers are 32 bits wide, so that they meet their limit by their type.
     pub fn in_shape(self) -> bool
         ensures { λ r. ⌜ r ≡ inShape self ⌝ }
     {
         let size = self.size;
         let places = self.places;
-        let counts = self.counts;
         let reader = self.reader;
         let stack = self.stack;
         let depth = self.depth;
-        pieces_fit(
-            size,
-            places,
-            counts,
-            reader,
-            stack,
-            depth,
-            &self.words,
-            &self.used,
-        )
+        counts_fit(self.counts)
+            & layout_fits(size, places, reader, stack, depth, &self.words, &self.used)
     }
 }

@@ -9,7 +9,7 @@ use lib.Dec.{leb·zero}
 use lib.ListN.{replicate, getD-replicate}
 use Rattle.ring.specs.Limits.{mostPages, pageRoom, bothFlags}
 use Rattle.ring.specs.State.{sizeOf}
-use Rattle.ring.specs.Shape.{sizeTests, sizeFits, placeTests, placesFit, wordFits, wordFitsAt, wordsFit, usedFitsAt, usedFit, numbersFit, pieceTests, piecesFit, inShape}
+use Rattle.ring.specs.Shape.{sizeTests, sizeFits, placeTests, placesFit, wordFits, wordFitsAt, wordsFit, usedFitsAt, usedFit, numbersFit, layoutTests, layoutFits, inShape}
 use Rattle.ring.specs.SetUp.{freshWord, freshWords, freshRing, plainRing, freshRule}
 use Rattle.ring.specs.Receipt.{receiptRule, freshReceipt}
 use Rattle.ring.specs.declared.state.Size.{Size}
@@ -49,12 +49,12 @@ module _ (size : Size) (fits : sizeFits size ≡ true) where
       )
 
   pub fresh-inShape : inShape (freshRing size) ≡ true
-  unfolding inShape piecesFit numbersFit
+  unfolding inShape layoutFits numbersFit
   fresh-inShape =
       let r = freshRing size in
       and-both
-      (every-each (pieceTests (r .size) (r .places) (r .counts) (r .reader) (r .stack) (r .depth) (r .words) (r .used))
-      (fits, (places, (refl, (refl, (refl, (words, (used, tt))))))))
+      (every-each (layoutTests (r .size) (r .places) (r .reader) (r .stack) (r .depth) (r .words) (r .used))
+      (fits, (places, (refl, (refl, (words, (used, tt)))))))
       refl
 
   pub fresh-complete : receiptRule (freshRing size) ≡ freshReceipt

@@ -2,7 +2,7 @@
 -- and the slots' numbers, whose bound comes from their width.
 -- Assumes nothing.
 use mathlib.Core.Path.{_≡_}
-use mathlib.Core.Bool.{true, and-true}
+use mathlib.Core.Bool.{Bool, true, _&&_, and-true}
 use Prim.Native.Nat.{ℕ, _+_, _≤_, _<_}
 use native.Mathlib.Omega.{arith}
 use borrow.Author.Tests.{leb-true, le-leb}
@@ -13,7 +13,7 @@ use lib.ListN.{getD}
 use Rattle.ring.specs.Limits.{leastPages, mostPages, leastSlots, mostSlots, mostDepth, mostCount, stop}
 use Rattle.ring.specs.Lists.{allBelow}
 use Rattle.ring.specs.State.{page, usedAt}
-use Rattle.ring.specs.Shape.{sizeTests, placeTests, smallTests, countsSmall, agreeTests, countsAgree, readerFits, recordFitsAt, wordFitsAt, usedFitsAt, numberFits, numbersFit, pieceTests, piecesFit, ringFits, inShape}
+use Rattle.ring.specs.Shape.{sizeTests, placeTests, smallTests, countsSmall, agreeTests, countsAgree, readerFits, recordFitsAt, wordFitsAt, usedFitsAt, numberFits, numbersFit, countsFit, layoutTests, layoutFits, ringFits, inShape}
 use Rattle.ring.specs.declared.state.Ring.{Ring}
 use Rattle.ring.proofs.Lists.{each, and-left, and-right, allBelow-at, all-getD}
 
@@ -44,15 +44,18 @@ pub record InShape (r : Ring) : Type 0 where
   pub used-at : (p : ℕ) → p ≤ r .size .pages → usedAt (r .used) (page p) ≤ r .size .slots
 
 module _ (r : Ring) where
-  pub in-shape : ringFits r ≡ true → InShape r
-  unfolding piecesFit
-  in-shape h =
-      let e = each (pieceTests (r .size) (r .places) (r .counts) (r .reader) (r .stack) (r .depth) (r .words) (r .used)) h in
+  pub in-shape : inShape r ≡ true → InShape r
+  unfolding inShape layoutFits
+  in-shape whole =
+      let h = and-left (ringFits r) (numbersFit (r .numbers)) whole in
+      let l = layoutFits (r .size) (r .places) (r .reader) (r .stack) (r .depth) (r .words) (r .used) in
+      let c = and-left (countsFit (r .counts)) l h in
+      let e = each (layoutTests (r .size) (r .places) (r .reader) (r .stack) (r .depth) (r .words) (r .used)) (and-right (countsFit (r .counts)) l h) in
       let s = each (sizeTests (r .size)) (e .0) in
       let p = each (placeTests (r .places) (r .size)) (e .1 .0) in
-      let k = each (smallTests (r .counts)) (and-left (countsSmall (r .counts)) (countsAgree (r .counts)) (e .1 .1 .0)) in
-      let a = each (agreeTests (r .counts)) (and-right (countsSmall (r .counts)) (countsAgree (r .counts)) (e .1 .1 .0)) in
-      let d = e .1 .1 .1 .1 .0 in
+      let k = each (smallTests (r .counts)) (and-left (countsSmall (r .counts)) (countsAgree (r .counts)) c) in
+      let a = each (agreeTests (r .counts)) (and-right (countsSmall (r .counts)) (countsAgree (r .counts)) c) in
+      let d = e .1 .1 .1 .0 in
       let records : allBelow (r .depth) (recordFitsAt (r .stack) (r .size)) ≡ true =
       and-right (leb (r .depth) mostDepth) (allBelow (r .depth) (recordFitsAt (r .stack) (r .size))) d in
       record {
@@ -75,11 +78,11 @@ module _ (r : Ring) where
         handed-overwritten = leb-true _ _ (a .0);
         committed-taken = leb-true _ _ (a .1 .0);
         taken-dropped = leb-true _ _ (a .1 .1 .0);
-        phase = e .1 .1 .1 .0;
+        phase = e .1 .1 .0;
         depth = leb-true _ _ (and-left (leb (r .depth) mostDepth) (allBelow (r .depth) (recordFitsAt (r .stack) (r .size))) d);
         record-at = λ i l. allBelow-at (recordFitsAt (r .stack) (r .size)) (r .depth) i records l;
-        word-at = λ i l. allBelow-at (wordFitsAt (r .words) (r .size .pages)) (r .size .pages + 1) i (e .1 .1 .1 .1 .1 .0) (omega arith);
-        used-at = λ i l. leb-true _ _ (allBelow-at (usedFitsAt (r .used) (r .size .slots)) (r .size .pages + 1) i (e .1 .1 .1 .1 .1 .1 .0) (omega arith));
+        word-at = λ i l. allBelow-at (wordFitsAt (r .words) (r .size .pages)) (r .size .pages + 1) i (e .1 .1 .1 .1 .0) (omega arith);
+        used-at = λ i l. leb-true _ _ (allBelow-at (usedFitsAt (r .used) (r .size .slots)) (r .size .pages + 1) i (e .1 .1 .1 .1 .1 .0) (omega arith));
       }
 
   -- numbers that are 32 bits wide meet their limit
@@ -87,7 +90,12 @@ module _ (r : Ring) where
   unfolding numbersFit
   numbers-fit h = all-getD numberFits (r .numbers) (λ i. le-leb (getD (r .numbers) i 0) mostCount (omega (arith, h i)))
 
-  -- so what the code tests is the whole definition
-  pub ringFits-inShape : ((i : ℕ) → Fits w32 (getD (r .numbers) i 0)) → ringFits r ≡ inShape r
+  -- so what the code tests, counts and layout, is the whole definition
+  pub tested-inShape :
+      {counts layout : Bool} →
+      counts ≡ countsFit (r .counts) →
+      layout ≡ layoutFits (r .size) (r .places) (r .reader) (r .stack) (r .depth) (r .words) (r .used) →
+      ((i : ℕ) → Fits w32 (getD (r .numbers) i 0)) →
+      counts && layout ≡ inShape r
   unfolding inShape
-  ringFits-inShape h = rw (numbers-fit h, and-true)
+  tested-inShape c l h = rw (numbers-fit h, and-true, c, l)

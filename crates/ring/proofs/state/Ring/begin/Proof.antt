@@ -1,7 +1,7 @@
--- `Ring::begin` is the rule. The verdict is that of the definition, since `pieces_fit` tests all of the shape but the slots' numbers, and those
--- are 32 bits wide. Where it is Allowed, depth is below 4 and begun below its limit, so the sums fit. Assumes nothing.
+-- `Ring::begin` is the rule. The verdict is that of the definition, since the code tests all of the shape but the slots' numbers, and those are
+-- 32 bits wide. Where it is Allowed, depth is below 4 and begun below its limit, so the sums fit. Assumes nothing.
 use mathlib.Core.Path.{_≡_, sym, ap, _∙_}
-use mathlib.Core.Bool.{Bool}
+use mathlib.Core.Bool.{Bool, _&&_}
 use Prim.Native.Nat.{ℕ}
 use native.Mathlib.Omega.{arith}
 use borrow.Author.Needs.{needs}
@@ -11,7 +11,7 @@ use lib.ListN.{getD}
 use Rattle.ring.specs.Shape.{inShape}
 use Rattle.ring.specs.Refusals.{beginVerdict}
 use Rattle.ring.specs.declared.state.Ring.{Ring}
-use Rattle.ring.proofs.shape.Laws.{InShape, in-shape, ringFits-inShape}
+use Rattle.ring.proofs.shape.Laws.{InShape, in-shape, tested-inShape}
 use Rattle.ring.proofs.begin.Laws.{Allows, allows}
 use Rattle.ring.proofs.state.Ring.begin.Statement.{statement}
 use Rattle.ring.proofs.state.Ring.begin.Tie as tie
@@ -20,14 +20,16 @@ narrow : (c : tie.Start) (i : ℕ) → Fits w32 (getD (c .args .t1 .numbers) i 0
 narrow c i = search needs
 
 -- the ring that the method is given
+abbrev start : tie.After-begin-verdict → tie.Start
+start c = c .before .before .before .before .before .before .before .before .before .before .before
+
 abbrev self : tie.After-begin-verdict → Ring
-self c = c .before .before .before .before .before .before .before .before .before .before .args .t1
+self c = start c .args .t1
 
 -- the code's test is the definition's
-fitting : (c : tie.After-begin-verdict) → c .before .pieces-fit .result ≡ inShape (self c)
+fitting : (c : tie.After-begin-verdict) → c .before .before .before .before .before .counts-fit .result && c .before .layout-fits .result ≡ inShape (self c)
 fitting c =
-    c .before .pieces-fit .ensures
-    ∙ ringFits-inShape (self c) (narrow (c .before .before .before .before .before .before .before .before .before .before))
+    tested-inShape (self c) (c .before .before .before .before .before .counts-fit .ensures) (c .before .layout-fits .ensures) (narrow (start c))
 
 -- and so is its verdict
 verdict : (c : tie.After-begin-verdict) → c .begin-verdict .result ≡ beginVerdict (inShape (self c)) (self c .depth) (self c .counts .begun)
@@ -39,7 +41,7 @@ allowed : (c : tie.After-enum-told) → Allows (inShape (self (c .before .before
 allowed c = allows _ _ _ (sym (verdict (c .before .before)) ∙ c .enum-told .given .1)
 
 shaped : (c : tie.After-enum-told) → InShape (self (c .before .before))
-shaped c = in-shape (self (c .before .before)) (sym (c .before .before .before .pieces-fit .ensures) ∙ fitting (c .before .before) ∙ allowed c .shape)
+shaped c = in-shape (self (c .before .before)) (allowed c .shape)
 
 returns : tie.Need-returns
 returns c = rw (sym (verdict (c .before .before .before)) ∙ c .before .verdict .given .1)
@@ -53,9 +55,6 @@ element-set-from-self c = omega (arith, shaped (c .before), allowed (c .before))
 add-self : tie.Need-add-self
 add-self c = omega (arith, shaped (c .before))
 
-add-t24 : tie.Need-add-t24
-add-t24 c = omega (arith, shaped (c .before .before))
-
 returns-2 : tie.Need-returns-2
 returns-2 c = rw (sym (verdict (c .before .before .before .before)) ∙ c .before .before .enum-told .given .1)
 
@@ -63,6 +62,7 @@ pub begin-spec : {M : Type 1} → statement M
 begin-spec =
     tie.close
     (tie.spec
+    (λ c κs. search needs)
     (λ c κs. search needs)
     (λ c κs. search needs)
     (λ c. search needs)
@@ -73,5 +73,5 @@ begin-spec =
     (λ c. search needs)
     element-set-from-self
     add-self
-    add-t24
+    (λ c. omega (arith, shaped (c .before .before)))
     returns-2)
