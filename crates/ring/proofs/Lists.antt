@@ -1,7 +1,7 @@
--- Laws of the tests and lists of specs/Lists: what `every` and `allBelow` tell, and what a tabulated list holds; and case splits on tests.
+-- Laws of the tests and lists of specs/Lists: what `every`, `allBelow` and `least` tell, and what a tabulated list holds; and case splits on tests.
 -- Assumes nothing.
 use mathlib.Core.Path.{_≡_, refl, sym, ap, _∙_}
-use mathlib.Core.Bool.{Bool, true, false, _&&_, true≢false}
+use mathlib.Core.Bool.{Bool, true, false, cond, _&&_, true≢false}
 use mathlib.Core.List.{List, [], _∷_}
 use Prim.Native.Nat.{ℕ, zero, suc, _+_, _<_}
 use native.Mathlib.Omega.{arith}
@@ -10,7 +10,7 @@ use borrow.Author.Tests.{eqb-true, eqb-false}
 use lib.Dec.{eqb}
 use lib.ListN.{length, getD, length-append, List·getD-append}
 use lib.Seq.{getD-append-seam}
-use Rattle.ring.specs.Lists.{andThen, every, all, allBelow, tabulate}
+use Rattle.ring.specs.Lists.{andThen, every, all, allBelow, none, at, least, tabulate}
 
 -- ---- case splits
 
@@ -20,6 +20,11 @@ by-bool false x y = y refl
 
 pub by-eq : {P : Type 0} (a b : ℕ) → (a ≡ b → P) → ((a ≡ b → ⊥) → P) → P
 by-eq a b x y = by-bool (eqb a b) (λ e. x (eqb-true a b e)) (λ e. y (eqb-false a b e))
+
+-- a fact of both branches is a fact of the choice
+pub by-cond : {A : Type 0} (P : A → Type 0) (b : Bool) {x y : A} → (b ≡ true → P x) → (b ≡ false → P y) → P (cond b x y)
+by-cond P true f g = f refl
+by-cond P false f g = g refl
 
 -- ---- tests taken together
 
@@ -87,6 +92,29 @@ tested-more h e = record { is = rw (add-one, h .is, e) }
 
 pub tested-end : {f : ℕ → Bool} {i : ℕ} {ok : Bool} (m : ℕ) → Tested f i ok → i ≡ m → ok ≡ allBelow m f
 tested-end m h e = rw (← e) (h .is)
+
+-- ---- the lowest number that passes
+
+module _ (f : ℕ → Bool) where
+  least-is : (m i : ℕ) → i < m → least i f ≡ none → f i ≡ true → least m f ≡ at i
+  least-is zero i l h e = absurd (omega arith)
+  least-is (suc m) i l h e = by-eq i m (λ q. rw (← q, h, e)) (λ n. rw (least-is m i (omega arith) h e))
+
+-- A loop that looks for a number: none of those below i passes. A record, for the same reason.
+pub record Unseen (f : ℕ → Bool) (i : ℕ) : Type 0 where
+  pub is : least i f ≡ none
+
+pub unseen-none : {f : ℕ → Bool} → Unseen f 0
+unseen-none = record { is = refl }
+
+pub unseen-more : {f : ℕ → Bool} {i : ℕ} → Unseen f i → f i ≡ false → Unseen f (i + 1)
+unseen-more h e = record { is = rw (add-one, h .is, e) }
+
+pub unseen-seen : {f : ℕ → Bool} {i : ℕ} (m : ℕ) → Unseen f i → i < m → f i ≡ true → least m f ≡ at i
+unseen-seen {f} {i} m h l e = least-is f m i l (h .is) e
+
+pub unseen-end : {f : ℕ → Bool} {i : ℕ} (m : ℕ) → Unseen f i → i ≡ m → least m f ≡ none
+unseen-end m h e = rw (← e) (h .is)
 
 -- ---- a list made of a function
 

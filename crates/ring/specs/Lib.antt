@@ -9,6 +9,7 @@ pub mod Shape
 pub mod SetUp
 pub mod Begin
 pub mod Write
+pub mod Pieces
 pub mod Read
 pub mod Receipt
 pub mod Act

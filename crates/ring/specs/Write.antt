@@ -26,30 +26,30 @@ use Rattle.ring.specs.declared.moves.Move.the-variants.{Become, Reserve,
 
 -- ---- which rule applies
 
--- "WANT, t full: n is the page in t's word. First that applies"; w is t's word
-abbrev pub planFull : Size → Places → ℕ → Move
-planFull size places w =
+-- "WANT, t full: n is the page in t's word. First that applies"; the flag is that of t's word
+abbrev pub planFull : Size → Places → PageNo → ℕ → Move
+planFull size places n flag =
     first
     -- a. t is the reader page: PUSH (t, n).
-    ((samePage (places .tail) (places .reader), Become (phase.Push (places .tail) (pageIn w)) answer.Looked)
+    ((samePage (places .tail) (places .reader), Become (phase.Push (places .tail) n) answer.Looked)
     -- b. n is the commit page: drop.
-    ∷ (samePage (pageIn w) (places .commit), Drop)
+    ∷ (samePage n (places .commit), Drop)
     -- c. flag HEADER and the commit page is the reader page: drop.
-    ∷ (eqb (flagIn w) header && readerOnCommit places, Drop)
+    ∷ (eqb flag header && readerOnCommit places, Drop)
     -- d. flag HEADER, stop mode: drop.
-    ∷ (eqb (flagIn w) header && eqb (size .mode) stop, Drop)
+    ∷ (eqb flag header && eqb (size .mode) stop, Drop)
     -- e. flag HEADER or UPDATE: MARK (t, n).
-    ∷ (eqb (flagIn w) header || eqb (flagIn w) update, Become (phase.Mark (places .tail) (pageIn w)) answer.Looked)
+    ∷ (eqb flag header || eqb flag update, Become (phase.Mark (places .tail) n) answer.Looked)
     ∷ [])
     -- f. flag NORMAL: PUSH (t, n).
-    (Become (phase.Push (places .tail) (pageIn w)) answer.Looked)
+    (Become (phase.Push (places .tail) n) answer.Looked)
 
 -- "WANT, tail page t with used < S": the slot is the one whose number is t's used
 abbrev pub planWant : Size → Places → List ℕ → List ℕ → Move
 planWant size places words used =
     cond (ltb (usedAt used (places .tail)) (size .slots))
     (Reserve (places .tail) (usedAt used (places .tail)))
-    (planFull size places (wordAt words (places .tail)))
+    (planFull size places (pageIn (wordAt words (places .tail))) (flagIn (wordAt words (places .tail))))
 
 -- "MARK: if t's word is n HEADER ... If it is n UPDATE: PROMOTE (t, n, not own). Answer Shared. Otherwise WANT, answer Retry."
 abbrev pub planMark : PageNo → PageNo → List ℕ → Move

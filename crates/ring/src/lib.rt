@@ -3,10 +3,13 @@
 pub mod state; // the ring and its parts
 pub mod moves; // what an action decides before it stores
 pub mod answers; // refusals by number
+pub mod cells; // what stands where in the arrays
 pub mod words; // link words, split and joined
 pub mod shape; // the test of shape
 pub mod setup; // fresh and plain
 pub mod begin; // Begin
+pub mod pieces; // what a Write leaves in each piece
+pub mod write; // Write
 
 // what a caller names
 pub use state::Action;

@@ -1,6 +1,7 @@
 // What an action decides from the pieces of the ring, before anything is stored.
 use crate::state::Answer;
 use crate::state::PageNo;
+use crate::state::ReadingNo;
 use crate::state::Refusal;
 use crate::state::WriterPhase;
 
@@ -36,6 +37,19 @@ pub enum Move {
     Fill(PageNo, u32),
     Pend,
     Commit,
+}
+
+// The cells of the arrays that a Write stores to. A slot is named by its place in the arrays of slots.
+pub enum Cells {
+    Same,
+    // a slot and the number that it gets; its page and the page's used
+    Number(usize, ReadingNo, PageNo, u32),
+    // t and its word; n, whose used becomes 0
+    Take(PageNo, u32, PageNo),
+    // a page and its word
+    Word(PageNo, u32),
+    // a slot and the value that it gets
+    Value(usize, u32),
 }
 
 // What a Read does.

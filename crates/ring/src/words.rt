@@ -1,7 +1,11 @@
-// Link words: 4 * (next page) + flag. They are split and joined here and nowhere else.
+// Link words: 4 * (next page) + flag. They are split, joined and searched here and nowhere else.
 ghost use mathlib.Core.Path.{_≡_};
-ghost use Rattle.ring.specs.Words.{pageIn, flagIn, wordOf};
+ghost use Prim.Native.Nat.{_≤_};
+ghost use Rattle.ring.specs.Words.{pageIn, flagIn, wordOf, links, findHeader};
+use crate::cells::word_at;
+use crate::moves::Search;
 use crate::state::PageNo;
+use crate::state::Ring;
 
 // The page in a word.
 pub fn page_in(w: u32) -> PageNo
@@ -22,4 +26,30 @@ pub fn word_of(page: PageNo, flag: u32) -> u64
     ensures { λ r. ⌜ r ≡ wordOf page flag ⌝ }
 {
     4 * (page.0 as u64) + (flag as u64)
+}
+
+// Whether the word of page p is n with this flag.
+pub(crate) fn links(words: &[u32; 17], p: PageNo, n: PageNo, flag: u32) -> bool
+    requires { ⌜ p .0 ≤ 16 ⌝ }
+    ensures { λ r. ⌜ r ≡ links (now (words .entry)) p n flag ⌝ }
+{
+    let w = word_at(words, p);
+    (w as u64) == word_of(n, flag)
+}
+
+// The lowest page up to n, other than the reader page, whose word is HEADER.
+pub(crate) fn find_header(words: &[u32; 17], n: u32, reader: PageNo) -> Search
+    requires { ⌜ n ≤ 16 ⌝ }
+    ensures { λ r. ⌜ r ≡ findHeader (now (words .entry)) n reader ⌝ }
+{
+    let mut p: u32 = 0;
+    while p <= n {
+        let at = p as usize;
+        let w = words[at];
+        if (p != reader.0) & (flag_in(w) == Ring::HEADER) {
+            return Search::At(PageNo(p), page_in(w));
+        }
+        p = p + 1;
+    }
+    Search::Nowhere
 }

@@ -5,7 +5,7 @@ use mathlib.Core.Path.{_≡_}
 use mathlib.Core.Bool.{Bool, true, _&&_, and-true}
 use Prim.Native.Nat.{ℕ, _+_, _≤_, _<_}
 use native.Mathlib.Omega.{arith}
-use borrow.Author.Tests.{leb-true, le-leb}
+use borrow.Author.Tests.{leb-true, ltb-true, le-leb}
 use mir.Syntax.{w32}
 use mir.Val.{Fits}
 use lib.Dec.{leb}
@@ -13,7 +13,9 @@ use lib.ListN.{getD}
 use Rattle.ring.specs.Limits.{leastPages, mostPages, leastSlots, mostSlots, mostDepth, mostCount, stop}
 use Rattle.ring.specs.Lists.{allBelow}
 use Rattle.ring.specs.State.{page, usedAt}
-use Rattle.ring.specs.Shape.{sizeTests, placeTests, smallTests, countsSmall, agreeTests, countsAgree, readerFits, recordFitsAt, wordFitsAt, usedFitsAt, numberFits, numbersFit, countsFit, layoutTests, layoutFits, ringFits, inShape}
+use Rattle.ring.specs.Shape.{sizeTests, placeTests, smallTests, countsSmall, agreeTests, countsAgree, pageTests, pagesFit, heldTests, heldFits, readerFits, recordFitsAt, wordFitsAt, usedFitsAt, numberFits, numbersFit, countsFit, layoutTests, layoutFits, ringFits, inShape}
+use Rattle.ring.specs.declared.state.PageNo.{PageNo}
+use Rattle.ring.specs.declared.state.Size.{Size}
 use Rattle.ring.specs.declared.state.Ring.{Ring}
 use Rattle.ring.proofs.Lists.{each, and-left, and-right, allBelow-at, all-getD}
 
@@ -42,6 +44,17 @@ pub record InShape (r : Ring) : Type 0 where
   pub record-at : (i : ℕ) → i < r .depth → recordFitsAt (r .stack) (r .size) i ≡ true
   pub word-at : (p : ℕ) → p ≤ r .size .pages → wordFitsAt (r .words) (r .size .pages) p ≡ true
   pub used-at : (p : ℕ) → p ≤ r .size .pages → usedAt (r .used) (page p) ≤ r .size .slots
+
+-- what it tells that two pages fit, and that a held slot does
+pub pages-fit : (p q : PageNo) (n : ℕ) → pagesFit p q n ≡ true → (p .0 ≤ n) × (q .0 ≤ n)
+pages-fit p q n h =
+    let e = each (pageTests p q n) h in
+    (leb-true _ _ (e .0), leb-true _ _ (e .1 .0))
+
+pub held-fits : (p : PageNo) (slot : ℕ) (s : Size) → heldFits p slot s ≡ true → (p .0 ≤ s .pages) × (slot < s .slots)
+held-fits p slot s h =
+    let e = each (heldTests p slot s) h in
+    (leb-true _ _ (e .0), ltb-true _ _ (e .1 .0))
 
 module _ (r : Ring) where
   pub in-shape : inShape r ≡ true → InShape r

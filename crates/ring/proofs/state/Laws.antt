@@ -13,7 +13,7 @@ use Rattle.ring.specs.declared.state.Size.{Size}
 use Rattle.ring.proofs.Lists.{by-bool}
 
 module _ (size : Size) where
-  pub slotIndex-room : (p : PageNo) (slot : ℕ) → p .0 ≤ mostPages → size .slots ≤ mostSlots → slot < size .slots → slotIndex size p slot < slotRoom
+  pub slotIndex-room : (p : PageNo) (slot : ℕ) → p .0 ≤ mostPages → size .slots ≤ mostSlots → slot < mostSlots → slotIndex size p slot < slotRoom
   slotIndex-room p slot hp hs hl = omega (arith, mul-le-mul-right (size .slots) hp)
 
   -- a slot of an earlier page stands before every slot of a later one

@@ -1,0 +1,2 @@
+-- Moves: the law of the last arm of a match on one.
+pub mod Laws

@@ -1,0 +1,84 @@
+-- The pieces that a move leaves are together what its rule leaves of the whole ring, and the cells that it stores to are within the arrays.
+-- Assumes nothing.
+use mathlib.Core.Path.{_≡_, refl}
+use mathlib.Core.List.{List}
+use Prim.Native.Nat.{ℕ, _-_, _≤_, _<_}
+use borrow.Author.Tests.{ne-eqb}
+use lib.ListN.{set}
+use Rattle.ring.specs.Limits.{mostPages, mostSlots, slotRoom}
+use Rattle.ring.specs.State.{withStack, withCounts, withPlaces, withDepth, top}
+use Rattle.ring.specs.Shape.{inShape}
+use Rattle.ring.specs.Answers.{Outcome, gives}
+use Rattle.ring.specs.Write.{moved, planWrite, writeRule}
+use Rattle.ring.specs.Pieces.{answerAfter, countsAfter, placesAfter, depthAfter, recordAfter, cellsAfter, stored, MoveFits}
+use Rattle.ring.specs.declared.state.Size.{Size}
+use Rattle.ring.specs.declared.state.Places.{Places}
+use Rattle.ring.specs.declared.state.Counts.{Counts}
+use Rattle.ring.specs.declared.state.Writer.{Writer}
+use Rattle.ring.specs.declared.state.Answer.{Answer}
+use Rattle.ring.specs.declared.state.Ring.{Ring}
+use Rattle.ring.specs.declared.moves.Move.{Move}
+use Rattle.ring.specs.declared.moves.Move.the-variants.{Become, Reserve, Drop, Mark, Promote, Clear, Push, Fill, Pend, Commit}
+use Rattle.ring.specs.declared.moves.Cells.{Cells}
+use Rattle.ring.specs.declared.moves.Cells.the-variants as cells
+use Rattle.ring.proofs.state.Laws.{slotIndex-room}
+use Rattle.ring.proofs.write.Laws.{Allows}
+
+-- the outcome with each piece given
+abbrev pub leaves : Ring → Answer → Writer → Counts → Places → ℕ → Cells → Outcome
+leaves r a w counts places depth c =
+    gives a (withStack (set (r .stack) (r .depth - 1) w) (withCounts counts (withPlaces places (withDepth depth (stored c r)))))
+
+-- the outcome with each piece as the definitions have it
+abbrev pub leavesBy : Move → Ring → Outcome
+leavesBy m r =
+    leaves r (answerAfter m (r .counts .taken)) (recordAfter m (top r .value)) (countsAfter m (r .counts) (r .used))
+    (placesAfter m (r .places) (r .used)) (depthAfter m (r .depth))
+    (cellsAfter m (r .size) (r .counts .taken) (top r .value) (r .words))
+
+pub moved-pieces : (m : Move) (r : Ring) → moved m r ≡ leavesBy m r
+moved-pieces (Become next a) r = refl
+moved-pieces (Reserve t slot) r = refl
+moved-pieces Drop r = refl
+moved-pieces (Mark t n) r = refl
+moved-pieces (Promote n next) r = refl
+moved-pieces (Clear t n) r = refl
+moved-pieces (Push n) r = refl
+moved-pieces (Fill p slot) r = refl
+moved-pieces Pend r = refl
+moved-pieces Commit r = refl
+
+-- a Write that is allowed leaves these pieces
+pub write-leaves :
+    (r : Ring) {m : Move} {a : Answer} {w : Writer} {counts : Counts} {places : Places} {depth : ℕ} {c : Cells} →
+    Allows (inShape r) (r .depth) →
+    m ≡ planWrite r →
+    a ≡ answerAfter m (r .counts .taken) →
+    w ≡ recordAfter m (top r .value) →
+    counts ≡ countsAfter m (r .counts) (r .used) →
+    places ≡ placesAfter m (r .places) (r .used) →
+    depth ≡ depthAfter m (r .depth) →
+    c ≡ cellsAfter m (r .size) (r .counts .taken) (top r .value) (r .words) →
+    writeRule r ≡ leaves r a w counts places depth c
+write-leaves r {m} ok e ea ew ek ep ed ec =
+    rw (ok .shape, ne-eqb (r .depth) 0 (ok .some), ← e, ea, ew, ek, ep, ed, ec) (moved-pieces m r)
+
+abbrev pub CellsFit : Cells → Type 0
+CellsFit cells.Same = Unit {0}
+CellsFit (cells.Number at number t used) = (at < slotRoom) × (t .0 ≤ mostPages)
+CellsFit (cells.Take t word n) = (t .0 ≤ mostPages) × (n .0 ≤ mostPages)
+CellsFit (cells.Word p word) = p .0 ≤ mostPages
+CellsFit (cells.Value at value) = at < slotRoom
+
+module _ (size : Size) (taken value : ℕ) (words : List ℕ) (le : size .slots ≤ mostSlots) where
+  pub cells-fit : (m : Move) → MoveFits m → CellsFit (cellsAfter m size taken value words)
+  cells-fit (Become next a) h = tt
+  cells-fit (Reserve t slot) h = (slotIndex-room size t slot (h .0) le (h .1), h .0)
+  cells-fit Drop h = tt
+  cells-fit (Mark t n) h = h
+  cells-fit (Promote n next) h = h
+  cells-fit (Clear t n) h = h .0
+  cells-fit (Push n) h = tt
+  cells-fit (Fill p slot) h = slotIndex-room size p slot (h .0) le (h .1)
+  cells-fit Pend h = tt
+  cells-fit Commit h = tt

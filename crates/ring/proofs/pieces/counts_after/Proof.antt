@@ -1,0 +1,52 @@
+-- `pieces::counts_after` is what the rule leaves of the counts, by the move. The counts are at most 4,294,967,295, so no sum wraps; a sum past that
+-- limit is kept. Assumes nothing.
+use mathlib.Core.Path.{_≡_, refl}
+use mathlib.Core.List.{[], _∷_}
+use borrow.Author.Needs.{needs}
+use denote.Ref.{now}
+use Rattle.ring.specs.Pieces.{countsAfter}
+use Rattle.ring.specs.declared.moves.Move.{Move}
+use Rattle.ring.proofs.moves.Laws.{of-numbers}
+use Rattle.ring.proofs.pieces.counts_after.Statement.{statement}
+use Rattle.ring.proofs.pieces.counts_after.Tie as tie
+
+used-at-requires : tie.Need-used-at-requires
+used-at-requires c κs = (rw (c .before .m .given .1) at (c .before .before .before .pre .0)) .1
+
+returns : tie.Need-returns
+returns c = rw (c .before .enum-told .given .1)
+
+returns-2 : tie.Need-returns-2
+returns-2 c = rw (c .before .enum-told2 .given .1)
+
+returns-3 : tie.Need-returns-3
+returns-3 c = rw (c .before .before .before .m .given .1, c .before .used-at .ensures)
+
+returns-4 : tie.Need-returns-4
+returns-4 c = rw (c .enum-told3 .given .1)
+
+returns-5 : tie.Need-returns-5
+returns-5 c =
+    let a = c .before .args in
+    of-numbers (λ (m : Move). a .counts ≡ countsAfter m (a .counts) (now (a .used))) (0 ∷ 4 ∷ 5 ∷ 6 ∷ 7 ∷ 8 ∷ []) (a .m)
+    ((λ next a. refl), ((λ n next. refl), ((λ t n. refl), ((λ n. refl), ((λ p slot. refl), (refl, tt))))))
+    (c .match .keys5)
+
+pub counts-after-spec : {M : Type 1} → statement M
+counts-after-spec =
+    tie.close
+    (tie.spec
+    (λ c. search needs)
+    (λ c. search needs)
+    (λ c. search needs)
+    (λ c. search needs)
+    (λ c. search needs)
+    used-at-requires
+    (λ c. search needs)
+    (λ c. search needs)
+    (λ c. search needs)
+    returns
+    returns-2
+    returns-3
+    returns-4
+    returns-5)

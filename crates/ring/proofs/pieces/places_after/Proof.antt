@@ -1,0 +1,34 @@
+-- `pieces::places_after` is what the rule leaves of the places: a push moves the tail, a commit the commit position. Assumes nothing.
+use mathlib.Core.Path.{_≡_, refl}
+use mathlib.Core.List.{[], _∷_}
+use borrow.Author.Needs.{needs}
+use denote.Ref.{now}
+use Rattle.ring.specs.Pieces.{placesAfter}
+use Rattle.ring.specs.declared.moves.Move.{Move}
+use Rattle.ring.proofs.moves.Laws.{of-numbers}
+use Rattle.ring.proofs.pieces.places_after.Statement.{statement}
+use Rattle.ring.proofs.pieces.places_after.Tie as tie
+
+returns : tie.Need-returns
+returns c = rw (c .before .m .given .1)
+
+returns-2 : tie.Need-returns-2
+returns-2 c = rw (c .before .before .enum-told .given .1, c .used-at .ensures)
+
+returns-3 : tie.Need-returns-3
+returns-3 c =
+    let a = c .before .args in
+    of-numbers (λ (m : Move). a .places ≡ placesAfter m (a .places) (now (a .used))) (0 ∷ 1 ∷ 2 ∷ 3 ∷ 4 ∷ 5 ∷ 7 ∷ 8 ∷ []) (a .m)
+    ((λ next a. refl), ((λ t slot. refl), (refl, ((λ t n. refl), ((λ n next. refl), ((λ t n. refl), ((λ p slot. refl), (refl, tt))))))))
+    (c .match .keys3)
+
+pub places-after-spec : {M : Type 1} → statement M
+places-after-spec =
+    tie.close
+    (tie.spec
+    (λ c. search needs)
+    (λ c. search needs)
+    (λ c κs. search needs)
+    returns
+    returns-2
+    returns-3)

@@ -1,0 +1,194 @@
+-- `Ring::write` is the rule. The verdict is that of the definition, since the code tests all of the shape but the slots' numbers, and those are 32 bits wide.
+-- Where it is Allowed, the move is the rule's, each piece is what the move leaves of it, and the cells that are stored to are within the arrays; so each
+-- arm of the match returns the rule's outcome. Assumes nothing.
+use mathlib.Core.Path.{_≡_, sym, ap, _∙_}
+use mathlib.Core.Bool.{Bool, _&&_}
+use Prim.Native.Nat.{ℕ, _≤_, _<_}
+use native.Mathlib.Omega.{arith}
+use borrow.Author.Needs.{needs}
+use mir.Syntax.{w32}
+use mir.Val.{Fits}
+use lib.ListN.{getD}
+use Rattle.ring.specs.Limits.{mostPages, slotRoom}
+use Rattle.ring.specs.State.{top}
+use Rattle.ring.specs.Shape.{inShape}
+use Rattle.ring.specs.Refusals.{writeVerdict}
+use Rattle.ring.specs.Write.{planWrite, writeRule}
+use Rattle.ring.specs.Pieces.{MoveFits}
+use Rattle.ring.specs.declared.state.Ring.{Ring}
+use Rattle.ring.proofs.shape.Laws.{InShape, in-shape, tested-inShape}
+use Rattle.ring.proofs.write.Laws.{Allows, allows, top-fits, plan-fits}
+use Rattle.ring.proofs.pieces.Laws.{leaves, write-leaves, CellsFit, cells-fit}
+use Rattle.ring.proofs.state.Ring.write.Statement.{statement}
+use Rattle.ring.proofs.state.Ring.write.Tie as tie
+
+narrow : (c : tie.Start) (i : ℕ) → Fits w32 (getD (c .args .t1 .numbers) i 0)
+narrow c i = search needs
+
+-- ---- the verdict
+
+-- the ring that the method is given
+abbrev start : tie.After-write-verdict → tie.Start
+start c = c .before .before .before .before .before .before .before .before .before .before .before
+
+abbrev self : tie.After-write-verdict → Ring
+self c = start c .args .t1
+
+-- the code's test is the definition's
+fitting : (c : tie.After-write-verdict) → c .before .before .before .before .before .counts-fit .result && c .before .layout-fits .result ≡ inShape (self c)
+fitting c = tested-inShape (self c) (c .before .before .before .before .before .counts-fit .ensures) (c .before .layout-fits .ensures) (narrow (start c))
+
+-- and so is its verdict
+verdict : (c : tie.After-write-verdict) → c .write-verdict .result ≡ writeVerdict (inShape (self c)) (self c .depth)
+verdict c = c .write-verdict .ensures ∙ ap (λ (b : Bool). writeVerdict b (self c .depth)) (fitting c)
+
+-- ---- where it is Allowed
+
+abbrev given : tie.After-enum-told → Ring
+given c = self (c .before .before)
+
+allowed : (c : tie.After-enum-told) → Allows (inShape (given c)) (given c .depth)
+allowed c = allows _ _ (sym (verdict (c .before .before)) ∙ c .enum-told .given .1)
+
+shaped : (c : tie.After-enum-told) → InShape (given c)
+shaped c = in-shape (given c) (allowed c .shape)
+
+-- the move is the rule's, and names only what the ring has room for
+planned : (c : tie.After-plan-phase) → c .plan-phase .result ≡ planWrite (given (c .before .before .before .before .before))
+planned c = c .plan-phase .ensures
+
+planned-fits : (c : tie.After-plan-phase) → MoveFits (c .plan-phase .result)
+planned-fits c =
+    let s = c .before .before .before .before .before in
+    rw (planned c) (plan-fits (given s) (shaped s) (allowed s .some))
+
+-- ---- when every call is made
+
+-- the rule's outcome, with the pieces as the code has them
+left : (c : tie.After-depth-after) → writeRule (given (c .before .before .before .before .before .before .before .before .before .before .before .before .before .before .before .before .before)) ≡ leaves (given (c .before .before .before .before .before .before .before .before .before .before .before .before .before .before .before .before .before)) (c .before .before .before .before .before .before .before .before .before .before .before .answer-after .result) (c .before .before .before .before .before .before .before .record-after .result) (c .before .before .before .before .counts-after .result) (c .before .places-after .result) (c .depth-after .result) (c .before .before .before .before .before .before .before .before .cells-after .result)
+left c =
+    write-leaves (given (c .before .before .before .before .before .before .before .before .before .before .before .before .before .before .before .before .before)) (allowed (c .before .before .before .before .before .before .before .before .before .before .before .before .before .before .before .before .before)) (planned (c .before .before .before .before .before .before .before .before .before .before .before .before))
+    (c .before .before .before .before .before .before .before .before .before .before .before .answer-after .ensures) (c .before .before .before .before .before .before .before .record-after .ensures) (c .before .before .before .before .counts-after .ensures) (c .before .places-after .ensures)
+    (c .depth-after .ensures) (c .before .before .before .before .before .before .before .before .cells-after .ensures)
+
+cells-within : (c : tie.After-depth-after) → CellsFit (c .before .before .before .before .before .before .before .before .cells-after .result)
+cells-within c =
+    let r = given (c .before .before .before .before .before .before .before .before .before .before .before .before .before .before .before .before .before) in
+    let s = shaped (c .before .before .before .before .before .before .before .before .before .before .before .before .before .before .before .before .before) in
+    rw (c .before .before .before .before .before .before .before .before .cells-after .ensures) (cells-fit (r .size) (r .counts .taken) (top r .value) (r .words) (s .slots-most) (c .before .before .before .before .before .before .before .before .before .before .before .before .plan-phase .result) (planned-fits (c .before .before .before .before .before .before .before .before .before .before .before .before)))
+
+-- ---- what the calls and the stores ask
+
+returns : tie.Need-returns
+returns c = rw (sym (verdict (c .before .before .before)) ∙ c .before .verdict .given .1)
+
+sub-top : tie.Need-sub-top
+sub-top c = omega (arith, allowed c)
+
+element-copy-out-w : tie.Need-element-copy-out-w
+element-copy-out-w c = omega (arith, shaped c, allowed c)
+
+plan-phase-requires : tie.Need-plan-phase-requires
+plan-phase-requires c κs =
+    let e = c .before .before .before .before in
+    let s = shaped e in
+    (omega (arith, s), omega (arith, s), top-fits (given e) s (allowed e .some))
+
+answer-after-requires : tie.Need-answer-after-requires
+answer-after-requires c κs = omega (arith, shaped (c .before .before .before .before .before))
+
+cells-after-requires : tie.Need-cells-after-requires
+cells-after-requires c κs = (planned-fits (c .before .before .before), omega (arith, shaped (c .before .before .before .before .before .before .before .before)))
+
+element-set-from-self : tie.Need-element-set-from-self
+element-set-from-self c = omega (arith, shaped (c .before .before .before .before .before .before .before .before .before .before), allowed (c .before .before .before .before .before .before .before .before .before .before))
+
+counts-after-requires : tie.Need-counts-after-requires
+counts-after-requires c κs =
+    let s = shaped (c .before .before .before .before .before .before .before .before .before .before .before .before) in
+    (planned-fits (c .before .before .before .before .before .before .before), s .taken, s .overwritten, s .dropped)
+
+places-after-requires : tie.Need-places-after-requires
+places-after-requires c κs = omega (arith, shaped (c .before .before .before .before .before .before .before .before .before .before .before .before .before .before .before))
+
+depth-after-requires : tie.Need-depth-after-requires
+depth-after-requires c κs = omega (arith, allowed (c .before .before .before .before .before .before .before .before .before .before .before .before .before .before .before .before))
+
+-- ---- the arms
+
+number-within : (c : tie.After-cells) → (c .cells .given .0 .0 < slotRoom) × (c .cells .given .0 .1 .1 .0 .0 ≤ mostPages)
+number-within c = rw (c .cells .given .1) at (cells-within (c .before .before))
+
+take-within : (c : tie.After-cells2) → (c .cells2 .given .0 .0 .0 ≤ mostPages) × (c .cells2 .given .0 .1 .1 .0 .0 ≤ mostPages)
+take-within c = rw (c .cells2 .given .1) at (cells-within (c .before .before))
+
+word-within : (c : tie.After-cells3) → c .cells3 .given .0 .0 .0 ≤ mostPages
+word-within c = rw (c .cells3 .given .1) at (cells-within (c .before .before))
+
+value-within : (c : tie.After-cells4) → c .cells4 .given .0 .0 < slotRoom
+value-within c = rw (c .cells4 .given .1) at (cells-within (c .before .before))
+
+returns-2 : tie.Need-returns-2
+returns-2 c = rw (left (c .before .before), c .enum-told2 .given .1)
+
+returns-3 : tie.Need-returns-3
+returns-3 c = rw (left (c .before .before .before .before), c .before .before .cells .given .1)
+
+returns-4 : tie.Need-returns-4
+returns-4 c = rw (left (c .before .before .before .before .before), c .before .before .before .cells2 .given .1)
+
+returns-5 : tie.Need-returns-5
+returns-5 c = rw (left (c .before .before .before .before), c .before .before .cells3 .given .1)
+
+returns-6 : tie.Need-returns-6
+returns-6 c = rw (left (c .before .before .before), c .before .cells4 .given .1)
+
+pub write-spec : {M : Type 1} → statement M
+write-spec =
+    tie.close
+    (tie.spec
+    (λ c κs. search needs)
+    (λ c κs. search needs)
+    (λ c κs. search needs)
+    (λ c. search needs)
+    returns
+    (λ c. search needs)
+    sub-top
+    (λ c. search needs)
+    (λ c. search needs)
+    element-copy-out-w
+    plan-phase-requires
+    answer-after-requires
+    cells-after-requires
+    (λ c κs. search needs)
+    (λ c. omega (arith, shaped (c .before .before .before .before .before .before .before .before .before .before)))
+    element-set-from-self
+    counts-after-requires
+    places-after-requires
+    depth-after-requires
+    (λ c. search needs)
+    (λ c. search needs)
+    (λ c. omega (arith, number-within (c .before)))
+    (λ c. omega (arith, number-within (c .before)))
+    (λ c. search needs)
+    (λ c. search needs)
+    (λ c. omega (arith, number-within (c .before .before)))
+    (λ c. search needs)
+    (λ c. search needs)
+    (λ c. search needs)
+    (λ c. omega (arith, take-within (c .before .before)))
+    (λ c. search needs)
+    (λ c. search needs)
+    (λ c. omega (arith, take-within (c .before .before .before)))
+    (λ c. search needs)
+    (λ c. search needs)
+    (λ c. search needs)
+    (λ c. omega (arith, word-within (c .before .before)))
+    (λ c. search needs)
+    (λ c. omega (arith, value-within (c .before)))
+    (λ c. omega (arith, value-within (c .before)))
+    returns-2
+    returns-3
+    returns-4
+    returns-5
+    returns-6)

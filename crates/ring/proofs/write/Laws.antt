@@ -1,0 +1,81 @@
+-- What it tells that a Write is allowed, and that the move decided on a ring in shape names only pages and slots that the ring has room for.
+-- Assumes nothing.
+use mathlib.Core.Path.{_≡_, refl}
+use mathlib.Core.Bool.{Bool, true, false, _&&_, _||_}
+use Prim.Native.Nat.{ℕ, _-_, _≤_}
+use native.Mathlib.Omega.{arith}
+use borrow.Author.Tests.{eqb-false, ltb-true}
+use lib.Dec.{eqb, ltb}
+use Rattle.ring.specs.Limits.{mostPages, mostSlots, stop, header, update}
+use Rattle.ring.specs.State.{wordAt, usedAt, top}
+use Rattle.ring.specs.Refusals.{writeVerdict}
+use Rattle.ring.specs.Words.{pageIn, flagIn, samePage, readerOnCommit, links, findHeader}
+use Rattle.ring.specs.Shape.{writerFits}
+use Rattle.ring.specs.Write.{planFull, planWant, planMark, promoteBy, planPhase, planWrite}
+use Rattle.ring.specs.Pieces.{MoveFits}
+use Rattle.ring.specs.declared.state.PageNo.{PageNo}
+use Rattle.ring.specs.declared.state.WriterPhase.{WriterPhase}
+use Rattle.ring.specs.declared.state.WriterPhase.the-variants as phase
+use Rattle.ring.specs.declared.state.Ring.{Ring}
+use Rattle.ring.specs.declared.moves.Search.{Search}
+use Rattle.ring.specs.declared.moves.Search.the-variants.{At, Nowhere}
+use Rattle.ring.specs.declared.moves.Verdict.the-variants.{Allowed}
+use Rattle.ring.proofs.Lists.{by-bool, by-cond}
+use Rattle.ring.proofs.begin.Laws.{refused-is-not-allowed}
+use Rattle.ring.proofs.shape.Laws.{InShape, pages-fit, held-fits}
+
+pub record Allows (fits : Bool) (depth : ℕ) : Type 0 where
+  pub shape : fits ≡ true
+  pub some : depth ≡ 0 → ⊥
+
+pub allows : (fits : Bool) (depth : ℕ) → writeVerdict fits depth ≡ Allowed → Allows fits depth
+allows false depth h = absurd (refused-is-not-allowed _ h)
+allows true depth h =
+    by-bool (eqb depth 0)
+    (λ d. absurd (refused-is-not-allowed _ (rw d at h)))
+    (λ d. record { shape = refl; some = eqb-false depth 0 d })
+
+-- a full tail page leads to a drop or to another phase, which name nothing to store to
+full-fits : (r : Ring) (n : PageNo) (flag : ℕ) → MoveFits (planFull (r .size) (r .places) n flag)
+full-fits r n flag =
+    by-cond MoveFits (samePage (r .places .tail) (r .places .reader)) (λ e. tt) (λ e.
+    by-cond MoveFits (samePage n (r .places .commit)) (λ e. tt) (λ e.
+    by-cond MoveFits (eqb flag header && readerOnCommit (r .places)) (λ e. tt) (λ e.
+    by-cond MoveFits (eqb flag header && eqb (r .size .mode) stop) (λ e. tt) (λ e.
+    by-cond MoveFits (eqb flag header || eqb flag update) (λ e. tt) (λ e. tt)))))
+
+promote-fits : (found : Search) (n : PageNo) (next : WriterPhase) → n .0 ≤ mostPages → MoveFits (promoteBy found n next)
+promote-fits (At p h) n next le = tt
+promote-fits Nowhere n next le = le
+
+module _ (r : Ring) (s : InShape r) where
+  pages-room : (t n : PageNo) → writerFits (phase.Mark t n) (r .size) ≡ true → (t .0 ≤ mostPages) × (n .0 ≤ mostPages)
+  pages-room t n h =
+      let f = pages-fit t n (r .size .pages) h in
+      (omega (arith, s), omega (arith, s))
+
+  phase-fits : (ph : WriterPhase) → writerFits ph (r .size) ≡ true → MoveFits (planPhase ph (r .size) (r .places) (r .depth) (r .words) (r .used))
+  phase-fits phase.Want h =
+      by-cond MoveFits (ltb (usedAt (r .used) (r .places .tail)) (r .size .slots))
+      (λ e. (omega (arith, s), omega (arith, s, ltb-true (usedAt (r .used) (r .places .tail)) (r .size .slots) e)))
+      (λ e. full-fits r (pageIn (wordAt (r .words) (r .places .tail))) (flagIn (wordAt (r .words) (r .places .tail))))
+  phase-fits (phase.Mark t n) h =
+      by-cond MoveFits (links (r .words) t n header)
+      (λ e. pages-room t n h)
+      (λ e. by-cond MoveFits (links (r .words) t n update) (λ e. tt) (λ e. tt))
+  phase-fits (phase.Promote t n own) h =
+      promote-fits (findHeader (r .words) (r .size .pages) (r .places .reader)) n _ (pages-room t n h .1)
+  phase-fits (phase.Clear t n) h = by-cond MoveFits (links (r .words) t n update) (λ e. pages-room t n h) (λ e. tt)
+  phase-fits (phase.Push t n) h = by-cond MoveFits (samePage (r .places .tail) t) (λ e. tt) (λ e. tt)
+  phase-fits (phase.Held p slot) h =
+      let f = held-fits p slot (r .size) h in
+      (omega (arith, s), omega (arith, s))
+  phase-fits phase.Filled h = by-cond MoveFits (eqb (r .depth) 1) (λ e. tt) (λ e. tt)
+
+  module _ (some : r .depth ≡ 0 → ⊥) where
+    -- the top record's phase fits, and so does the move that it leads to
+    pub top-fits : writerFits (top r .phase) (r .size) ≡ true
+    top-fits = s .record-at (r .depth - 1) (omega arith)
+
+    pub plan-fits : MoveFits (planWrite r)
+    plan-fits = phase-fits (top r .phase) top-fits

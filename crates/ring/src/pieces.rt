@@ -1,0 +1,142 @@
+// What a Write leaves in each piece of the ring, once it is decided which rule applies.
+ghost use mathlib.Core.Path.{_≡_};
+ghost use Prim.Native.Nat.{_≤_};
+ghost use Rattle.ring.specs.Pieces.{answerAfter, recordAfter, countsAfter, placesAfter, depthAfter, cellsAfter, MoveFits};
+use crate::cells::slot_index;
+use crate::cells::used_at;
+use crate::cells::word_at;
+use crate::moves::Cells;
+use crate::moves::Move;
+use crate::state::Answer;
+use crate::state::Counts;
+use crate::state::PageNo;
+use crate::state::Places;
+use crate::state::ReadingNo;
+use crate::state::Ring;
+use crate::state::Size;
+use crate::state::Writer;
+use crate::state::WriterPhase;
+use crate::words::page_in;
+use crate::words::word_of;
+
+pub(crate) fn answer_after(m: Move, taken: u64) -> Answer
+    requires { ⌜ taken ≤ 4294967295 ⌝ }
+    ensures { λ r. ⌜ r ≡ answerAfter m taken ⌝ }
+{
+    let number = ReadingNo(taken as u32);
+    match m {
+        Move::Become(_, answer) => answer,
+        Move::Reserve(_, _) => Answer::Reserved(number),
+        Move::Drop => Answer::Dropped,
+        Move::Mark(_, _) => Answer::Marked,
+        Move::Promote(_, _) => Answer::Promoted,
+        Move::Clear(_, _) => Answer::Cleared,
+        Move::Push(_) => Answer::Pushed,
+        Move::Fill(_, _) => Answer::Filled,
+        Move::Pend => Answer::Pending,
+        Move::Commit => Answer::Committed(taken),
+    }
+}
+
+// The record's next phase; a popped record is reset.
+pub(crate) fn record_after(m: Move, value: u32) -> Writer
+    ensures { λ r. ⌜ r ≡ recordAfter m value ⌝ }
+{
+    let none = Writer {
+        value: 0,
+        phase: WriterPhase::Want,
+    };
+    let phase = match m {
+        Move::Become(next, _) => next,
+        Move::Reserve(t, slot) => WriterPhase::Held(t, slot),
+        Move::Mark(t, n) => WriterPhase::Promote(t, n, true),
+        Move::Promote(_, next) => next,
+        Move::Clear(t, n) => WriterPhase::Push(t, n),
+        Move::Push(_) => WriterPhase::Want,
+        Move::Fill(_, _) => WriterPhase::Filled,
+        _ => {
+            return none;
+        }
+    };
+    Writer { value, phase }
+}
+
+pub(crate) fn counts_after(m: Move, counts: Counts, used: &[u32; 17]) -> Counts
+    requires { ⌜ MoveFits m × (counts .taken ≤ 4294967295) × (counts .overwritten ≤ 4294967295) × (counts .dropped ≤ 4294967295) ⌝ }
+    ensures { λ r. ⌜ r ≡ countsAfter m counts (now (used .entry)) ⌝ }
+{
+    let mut next = counts;
+    match m {
+        Move::Reserve(_, _) => next.taken = counts.taken + 1,
+        Move::Drop => next.dropped = counts.dropped + 1,
+        Move::Mark(_, n) => {
+            let lost = used_at(used, n);
+            next.overwritten = counts.overwritten + (lost as u64);
+        }
+        Move::Commit => next.committed = counts.taken,
+        _ => (),
+    }
+    next
+}
+
+pub(crate) fn places_after(m: Move, places: Places, used: &[u32; 17]) -> Places
+    requires { ⌜ places .tail .0 ≤ 16 ⌝ }
+    ensures { λ r. ⌜ r ≡ placesAfter m places (now (used .entry)) ⌝ }
+{
+    let mut next = places;
+    match m {
+        Move::Push(n) => next.tail = n,
+        Move::Commit => {
+            let tail = places.tail;
+            next.commit = tail;
+            next.index = used_at(used, tail);
+        }
+        _ => (),
+    }
+    next
+}
+
+pub(crate) fn depth_after(m: Move, depth: u32) -> u32
+    requires { ⌜ 1 ≤ depth ⌝ }
+    ensures { λ r. ⌜ r ≡ depthAfter m depth ⌝ }
+{
+    match m {
+        Move::Drop => depth - 1,
+        Move::Pend => depth - 1,
+        Move::Commit => depth - 1,
+        _ => depth,
+    }
+}
+
+// The cells that the rule stores to.
+pub(crate) fn cells_after(m: Move, size: Size, taken: u64, value: u32, words: &[u32; 17]) -> Cells
+    requires { ⌜ MoveFits m × (taken ≤ 4294967295) ⌝ }
+    ensures { λ r. ⌜ r ≡ cellsAfter m size taken value (now (words .entry)) ⌝ }
+{
+    match m {
+        Move::Reserve(t, slot) => {
+            let at = slot_index(size, t, slot);
+            let number = taken as u32;
+            let used = slot + 1;
+            Cells::Number(at, ReadingNo(number), t, used)
+        }
+        Move::Mark(t, n) => {
+            let word = word_of(n, Ring::UPDATE) as u32;
+            Cells::Take(t, word, n)
+        }
+        Move::Promote(n, _) => {
+            let next = page_in(word_at(words, n));
+            let word = word_of(next, Ring::HEADER) as u32;
+            Cells::Word(n, word)
+        }
+        Move::Clear(t, n) => {
+            let word = word_of(n, Ring::NORMAL) as u32;
+            Cells::Word(t, word)
+        }
+        Move::Fill(p, slot) => {
+            let at = slot_index(size, p, slot);
+            Cells::Value(at, value)
+        }
+        _ => Cells::Same,
+    }
+}

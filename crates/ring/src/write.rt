@@ -1,0 +1,220 @@
+// Write: one step of the writer on top of the stack. First which rule applies, one function for each phase, from the pieces that decide it;
+// then the method, which stores what the rule leaves.
+ghost use mathlib.Core.Path.{_≡_};
+ghost use mathlib.Core.Bool.{true};
+ghost use Prim.Native.Nat.{_≤_};
+ghost use Rattle.ring.specs.Answers.{outcome};
+ghost use Rattle.ring.specs.Refusals.{writeVerdict};
+ghost use Rattle.ring.specs.Shape.{writerFits};
+ghost use Rattle.ring.specs.Write.{planFull, planWant, planMark, afterPromote, planPromote, planClear, planPush, planFilled, planPhase, writeRule};
+use crate::cells::used_at;
+use crate::cells::word_at;
+use crate::moves::Cells;
+use crate::moves::Move;
+use crate::moves::Search;
+use crate::moves::Verdict;
+use crate::pieces::answer_after;
+use crate::pieces::cells_after;
+use crate::pieces::counts_after;
+use crate::pieces::depth_after;
+use crate::pieces::places_after;
+use crate::pieces::record_after;
+use crate::shape::counts_fit;
+use crate::shape::layout_fits;
+use crate::state::Answer;
+use crate::state::PageNo;
+use crate::state::Places;
+use crate::state::Refusal;
+use crate::state::Ring;
+use crate::state::Size;
+use crate::state::Step;
+use crate::state::WriterPhase;
+use crate::words::find_header;
+use crate::words::flag_in;
+use crate::words::links;
+use crate::words::page_in;
+
+// WANT, the tail page full; n and flag are those of its word.
+fn plan_full(size: Size, places: Places, n: PageNo, flag: u32) -> Move
+    ensures { λ r. ⌜ r ≡ planFull size places n flag ⌝ }
+{
+    let t = places.tail;
+    if t.0 == places.reader.0 {
+        return Move::Become(WriterPhase::Push(t, n), Answer::Looked);
+    }
+    if n.0 == places.commit.0 {
+        return Move::Drop;
+    }
+    if (flag == Ring::HEADER) & (places.commit.0 == places.reader.0) {
+        return Move::Drop;
+    }
+    if (flag == Ring::HEADER) & (size.mode == Ring::STOP) {
+        return Move::Drop;
+    }
+    if (flag == Ring::HEADER) | (flag == Ring::UPDATE) {
+        return Move::Become(WriterPhase::Mark(t, n), Answer::Looked);
+    }
+    Move::Become(WriterPhase::Push(t, n), Answer::Looked)
+}
+
+fn plan_want<'a>(size: Size, places: Places, words: &'a [u32; 17], used: &'a [u32; 17]) -> Move
+    requires { ⌜ places .tail .0 ≤ 16 ⌝ }
+    ensures { λ r. ⌜ r ≡ planWant size places (now (words .entry)) (now (used .entry)) ⌝ }
+{
+    let t = places.tail;
+    let slot = used_at(used, t);
+    if slot < size.slots {
+        return Move::Reserve(t, slot);
+    }
+    let w = word_at(words, t);
+    plan_full(size, places, page_in(w), flag_in(w))
+}
+
+fn plan_mark(t: PageNo, n: PageNo, words: &[u32; 17]) -> Move
+    requires { ⌜ t .0 ≤ 16 ⌝ }
+    ensures { λ r. ⌜ r ≡ planMark t n (now (words .entry)) ⌝ }
+{
+    if links(words, t, n, Ring::HEADER) {
+        return Move::Mark(t, n);
+    }
+    if links(words, t, n, Ring::UPDATE) {
+        return Move::Become(WriterPhase::Promote(t, n, false), Answer::Shared);
+    }
+    Move::Become(WriterPhase::Want, Answer::Retry)
+}
+
+fn after_promote(t: PageNo, n: PageNo, own: bool) -> WriterPhase
+    ensures { λ r. ⌜ r ≡ afterPromote t n own ⌝ }
+{
+    if own {
+        WriterPhase::Clear(t, n)
+    } else {
+        WriterPhase::Push(t, n)
+    }
+}
+
+fn plan_promote(
+    size: Size,
+    places: Places,
+    t: PageNo,
+    n: PageNo,
+    own: bool,
+    words: &[u32; 17],
+) -> Move
+    requires { ⌜ size .pages ≤ 16 ⌝ }
+    ensures { λ r. ⌜ r ≡ planPromote size places t n own (now (words .entry)) ⌝ }
+{
+    let next = after_promote(t, n, own);
+    let found = find_header(words, size.pages, places.reader);
+    match found {
+        Search::At(_, _) => Move::Become(next, Answer::Standing),
+        Search::Nowhere => Move::Promote(n, next),
+    }
+}
+
+fn plan_clear(t: PageNo, n: PageNo, words: &[u32; 17]) -> Move
+    requires { ⌜ t .0 ≤ 16 ⌝ }
+    ensures { λ r. ⌜ r ≡ planClear t n (now (words .entry)) ⌝ }
+{
+    if links(words, t, n, Ring::UPDATE) {
+        Move::Clear(t, n)
+    } else {
+        Move::Become(WriterPhase::Push(t, n), Answer::Cleared)
+    }
+}
+
+fn plan_push(places: Places, t: PageNo, n: PageNo) -> Move
+    ensures { λ r. ⌜ r ≡ planPush places t n ⌝ }
+{
+    if places.tail.0 == t.0 {
+        Move::Push(n)
+    } else {
+        Move::Become(WriterPhase::Want, Answer::Passed)
+    }
+}
+
+fn plan_filled(depth: u32) -> Move
+    ensures { λ r. ⌜ r ≡ planFilled depth ⌝ }
+{
+    if depth == 1 { Move::Commit } else { Move::Pend }
+}
+
+// Which rule applies to a record in this phase.
+pub(crate) fn plan_phase<'a>(
+    phase: WriterPhase,
+    size: Size,
+    places: Places,
+    depth: u32,
+    words: &'a [u32; 17],
+    used: &'a [u32; 17],
+) -> Move
+    requires { ⌜ (size .pages ≤ 16) × (places .tail .0 ≤ 16) × (writerFits phase size ≡ true) ⌝ }
+    ensures { λ r. ⌜ r ≡ planPhase phase size places depth (now (words .entry)) (now (used .entry)) ⌝ }
+{
+    match phase {
+        WriterPhase::Want => plan_want(size, places, words, used),
+        WriterPhase::Mark(t, n) => plan_mark(t, n, words),
+        WriterPhase::Promote(t, n, own) => plan_promote(size, places, t, n, own, words),
+        WriterPhase::Clear(t, n) => plan_clear(t, n, words),
+        WriterPhase::Push(t, n) => plan_push(places, t, n),
+        WriterPhase::Held(p, slot) => Move::Fill(p, slot),
+        WriterPhase::Filled => plan_filled(depth),
+    }
+}
+
+// Whether a Write is made or refused; `fit` says whether the ring is in shape.
+fn write_verdict(fit: bool, depth: u32) -> Verdict
+    ensures { λ r. ⌜ r ≡ writeVerdict fit depth ⌝ }
+{
+    if !fit {
+        return Verdict::Refused(Refusal::Shape);
+    }
+    if depth == 0 {
+        return Verdict::Refused(Refusal::Nobody);
+    }
+    Verdict::Allowed
+}
+
+impl Ring {
+    pub fn write(mut self) -> Step
+        ensures { λ r. ⌜ outcome r ≡ writeRule self ⌝ }
+    {
+        let size = self.size;
+        let places = self.places;
+        let counts = self.counts;
+        let reader = self.reader;
+        let stack = self.stack;
+        let depth = self.depth;
+        let fit = counts_fit(counts)
+            & layout_fits(size, places, reader, stack, depth, &self.words, &self.used);
+        let verdict = write_verdict(fit, depth);
+        if let Verdict::Refused(why) = verdict {
+            let answer = Answer::Refused(why);
+            return Step { ring: self, answer };
+        }
+        let top = (depth - 1) as usize;
+        let w = self.stack[top];
+        let phase = w.phase;
+        let m = plan_phase(phase, size, places, depth, &self.words, &self.used);
+        let answer = answer_after(m, counts.taken);
+        let cells = cells_after(m, size, counts.taken, w.value, &self.words);
+        self.stack[top] = record_after(m, w.value);
+        self.counts = counts_after(m, counts, &self.used);
+        self.places = places_after(m, places, &self.used);
+        self.depth = depth_after(m, depth);
+        match cells {
+            Cells::Same => (),
+            Cells::Number(at, number, t, used) => {
+                self.numbers[at] = number.0;
+                self.used[t.0 as usize] = used;
+            }
+            Cells::Take(t, word, n) => {
+                self.words[t.0 as usize] = word;
+                self.used[n.0 as usize] = 0;
+            }
+            Cells::Word(p, word) => self.words[p.0 as usize] = word,
+            Cells::Value(at, value) => self.values[at] = value,
+        }
+        Step { ring: self, answer }
+    }
+}
