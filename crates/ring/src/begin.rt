@@ -41,12 +41,9 @@ impl Ring {
         let depth = self.depth;
         let fit = counts_fit(counts)
             & layout_fits(size, places, reader, stack, depth, &self.words, &self.used);
-        let verdict = begin_verdict(fit, depth, counts.begun);
-        if let Verdict::Refused(why) = verdict {
-            return Step {
-                ring: self,
-                answer: Answer::Refused(why),
-            };
+        if let Verdict::Refused(why) = begin_verdict(fit, depth, counts.begun) {
+            let answer = Answer::Refused(why);
+            return Step { ring: self, answer };
         }
         let at = depth as usize;
         let begun = counts.begun + 1;
@@ -56,9 +53,7 @@ impl Ring {
         };
         self.depth = depth + 1;
         self.counts.begun = begun;
-        Step {
-            ring: self,
-            answer: Answer::Begun(depth + 1),
-        }
+        let answer = Answer::Begun(depth + 1);
+        Step { ring: self, answer }
     }
 }

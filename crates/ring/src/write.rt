@@ -28,6 +28,7 @@ use crate::state::Refusal;
 use crate::state::Ring;
 use crate::state::Size;
 use crate::state::Step;
+use crate::state::Writer;
 use crate::state::WriterPhase;
 use crate::words::find_header;
 use crate::words::flag_in;
@@ -139,18 +140,19 @@ fn plan_filled(depth: u32) -> Move
     if depth == 1 { Move::Commit } else { Move::Pend }
 }
 
-// Which rule applies to a record in this phase.
+// Which rule applies to the top record, by its phase.
 pub(crate) fn plan_phase<'a>(
-    phase: WriterPhase,
+    w: Writer,
     size: Size,
     places: Places,
     depth: u32,
     words: &'a [u32; 17],
     used: &'a [u32; 17],
 ) -> Move
-    requires { ⌜ (size .pages ≤ 16) × (places .tail .0 ≤ 16) × (writerFits phase size ≡ true) ⌝ }
-    ensures { λ r. ⌜ r ≡ planPhase phase size places depth (now (words .entry)) (now (used .entry)) ⌝ }
+    requires { ⌜ (size .pages ≤ 16) × (places .tail .0 ≤ 16) × (writerFits (w .phase) size ≡ true) ⌝ }
+    ensures { λ r. ⌜ r ≡ planPhase (w .phase) size places depth (now (words .entry)) (now (used .entry)) ⌝ }
 {
+    let phase = w.phase;
     match phase {
         WriterPhase::Want => plan_want(size, places, words, used),
         WriterPhase::Mark(t, n) => plan_mark(t, n, words),
@@ -187,15 +189,13 @@ impl Ring {
         let depth = self.depth;
         let fit = counts_fit(counts)
             & layout_fits(size, places, reader, stack, depth, &self.words, &self.used);
-        let verdict = write_verdict(fit, depth);
-        if let Verdict::Refused(why) = verdict {
+        if let Verdict::Refused(why) = write_verdict(fit, depth) {
             let answer = Answer::Refused(why);
             return Step { ring: self, answer };
         }
         let top = (depth - 1) as usize;
         let w = self.stack[top];
-        let phase = w.phase;
-        let m = plan_phase(phase, size, places, depth, &self.words, &self.used);
+        let m = plan_phase(w, size, places, depth, &self.words, &self.used);
         let answer = answer_after(m, counts.taken);
         let cells = cells_after(m, size, counts.taken, w.value, &self.words);
         self.stack[top] = record_after(m, w.value);

@@ -44,7 +44,7 @@ shaped : (c : tie.After-enum-told) → InShape (self (c .before .before))
 shaped c = in-shape (self (c .before .before)) (allowed c .shape)
 
 returns : tie.Need-returns
-returns c = rw (sym (verdict (c .before .before .before)) ∙ c .before .verdict .given .1)
+returns c = rw (sym (verdict (c .before .before .before)) ∙ c .before .why .given .1)
 
 add-begun : tie.Need-add-begun
 add-begun c = omega (arith, shaped (c .before))

@@ -80,7 +80,7 @@ cells-within c =
 -- ---- what the calls and the stores ask
 
 returns : tie.Need-returns
-returns c = rw (sym (verdict (c .before .before .before)) ∙ c .before .verdict .given .1)
+returns c = rw (sym (verdict (c .before .before .before)) ∙ c .before .why .given .1)
 
 sub-top : tie.Need-sub-top
 sub-top c = omega (arith, allowed c)
