@@ -66,7 +66,7 @@ module _ (r : Ring) (s : InShape r) where
   phase-fits (phase.Promote t n own) h =
       promote-fits (findHeader (r .words) (r .size .pages) (r .places .reader)) n _ (pages-room t n h .1)
   phase-fits (phase.Clear t n) h = by-cond MoveFits (links (r .words) t n update) (λ e. pages-room t n h) (λ e. tt)
-  phase-fits (phase.Push t n) h = by-cond MoveFits (samePage (r .places .tail) t) (λ e. tt) (λ e. tt)
+  phase-fits (phase.Push t n) h = by-cond MoveFits (samePage (r .places .tail) t) (λ e. pages-room t n h .1) (λ e. tt)
   phase-fits (phase.Held p slot) h =
       let f = held-fits p slot (r .size) h in
       (omega (arith, s), omega (arith, s))

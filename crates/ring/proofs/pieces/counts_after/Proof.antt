@@ -2,6 +2,7 @@
 -- limit is kept. Assumes nothing.
 use mathlib.Core.Path.{_≡_, refl}
 use mathlib.Core.List.{[], _∷_}
+use native.Mathlib.Omega.{arith}
 use borrow.Author.Needs.{needs}
 use denote.Ref.{now}
 use Rattle.ring.specs.Pieces.{countsAfter}
@@ -11,7 +12,9 @@ use Rattle.ring.proofs.pieces.counts_after.Statement.{statement}
 use Rattle.ring.proofs.pieces.counts_after.Tie as tie
 
 used-at-requires : tie.Need-used-at-requires
-used-at-requires c κs = (rw (c .before .m .given .1) at (c .before .before .before .pre .0)) .1
+used-at-requires c κs =
+    let f = rw (c .before .m .given .1) at (c .before .before .before .pre .0) in
+    omega arith
 
 returns : tie.Need-returns
 returns c = rw (c .before .enum-told .given .1)
