@@ -44,6 +44,7 @@ full-fits r n flag =
     by-cond MoveFits (eqb flag header && eqb (r .size .mode) stop) (λ e. tt) (λ e.
     by-cond MoveFits (eqb flag header || eqb flag update) (λ e. tt) (λ e. tt)))))
 
+-- PROMOTE names n alone, whatever was found
 promote-fits : (found : Search) (n : PageNo) (next : WriterPhase) → n .0 ≤ mostPages → MoveFits (promoteBy found n next)
 promote-fits (At p h) n next le = tt
 promote-fits Nowhere n next le = le

@@ -1,17 +1,41 @@
--- `plan_full` is the rule of a full tail page: the tests of the six cases, in their order. Assumes nothing.
+-- `plan_full` is the rule of a full tail page: the tests of the cases, in their order. Each test of the code is named here as the rule has it.
+-- Assumes nothing.
 use mathlib.Core.Path.{_≡_}
-use mathlib.Core.Bool.{false}
+use mathlib.Core.Bool.{true, false, _&&_, _||_}
 use borrow.Author.Tests.{eq-eqb, ne-eqb}
-use Rattle.ring.specs.Words.{samePage}
+use lib.Dec.{eqb}
+use Rattle.ring.specs.Limits.{stop, header, update}
+use Rattle.ring.specs.Words.{samePage, readerOnCommit}
 use Rattle.ring.proofs.write.plan_full.Statement.{statement}
 use Rattle.ring.proofs.write.plan_full.Tie as tie
 
--- not case a, not case b
-not-a : (c : tie.Else1) → samePage (c .before .before .before .before .args .places .tail) (c .before .before .before .before .args .places .reader) ≡ false
+-- ---- a case that does not apply
+
+abbrev start-a : tie.Else1 → tie.Start
+start-a c = c .before .before .before .before
+
+abbrev start-b : tie.Else2 → tie.Start
+start-b c = start-a (c .before .before .before)
+
+abbrev start-c : tie.Else3 → tie.Start
+start-c c = start-b (c .before .before)
+
+abbrev start-d : tie.Else4 → tie.Start
+start-d c = start-c (c .before .before)
+
+not-a : (c : tie.Else1) → samePage (start-a c .args .places .tail) (start-a c .args .places .reader) ≡ false
 not-a c = ne-eqb _ _ (c .if1 .left)
 
-not-b : (c : tie.Else2) → samePage (c .before .before .before .before .before .before .before .args .n) (c .before .before .before .before .before .before .before .args .places .commit) ≡ false
+not-b : (c : tie.Else2) → samePage (start-b c .args .n) (start-b c .args .places .commit) ≡ false
 not-b c = ne-eqb _ _ (c .if2 .left)
+
+not-c : (c : tie.Else3) → eqb (start-c c .args .flag) header && readerOnCommit (start-c c .args .places) ≡ false
+not-c c = c .if3 .left
+
+not-d : (c : tie.Else4) → eqb (start-d c .args .flag) header && eqb (start-d c .args .size .mode) stop ≡ false
+not-d c = c .if4 .left
+
+-- ---- the first that applies
 
 returns : tie.Need-returns
 returns c = rw (eq-eqb _ _ (c .if1 .taken))
@@ -23,27 +47,13 @@ returns-3 : tie.Need-returns-3
 returns-3 c = rw (not-a (c .before .before .before .before .before), not-b (c .before .before), c .if3 .taken)
 
 returns-4 : tie.Need-returns-4
-returns-4 c = rw (not-a (c .before .before .before .before .before .before .before), not-b (c .before .before .before .before), c .before .before .if3 .left, c .if4 .taken)
+returns-4 c = rw (not-a (c .before .before .before .before .before .before .before), not-b (c .before .before .before .before), not-c (c .before .before), c .if4 .taken)
 
 returns-5 : tie.Need-returns-5
-returns-5 c =
-    rw (
-      not-a (c .before .before .before .before .before .before .before .before),
-      not-b (c .before .before .before .before .before),
-      c .before .before .before .if3 .left,
-      c .before .if4 .left,
-      c .if5 .taken,
-    )
+returns-5 c = rw (not-a (c .before .before .before .before .before .before .before .before), not-b (c .before .before .before .before .before), not-c (c .before .before .before), not-d (c .before), c .if5 .taken)
 
 returns-6 : tie.Need-returns-6
-returns-6 c =
-    rw (
-      not-a (c .before .before .before .before .before .before .before .before),
-      not-b (c .before .before .before .before .before),
-      c .before .before .before .if3 .left,
-      c .before .if4 .left,
-      c .if5 .left,
-    )
+returns-6 c = rw (not-a (c .before .before .before .before .before .before .before .before), not-b (c .before .before .before .before .before), not-c (c .before .before .before), not-d (c .before), c .if5 .left)
 
 pub plan-full-spec : {M : Type 1} → statement M
 plan-full-spec = tie.close (tie.spec returns returns-2 returns-3 returns-4 returns-5 returns-6)
