@@ -136,7 +136,7 @@ numberFits number = leb number mostCount
 unfoldable pub numbersFit : List ℕ → Bool
 numbersFit numbers = all numberFits numbers
 
--- where things stand: all of it but the counts and the slots' numbers. A step may take a count past its limit; this it keeps.
+-- where things stand: all of it but the counts and the slots' numbers
 abbrev pub layoutTests : Size → Places → Reader → List Writer → ℕ → List ℕ → List ℕ → List Bool
 layoutTests size places reader stack depth words used =
     sizeFits size

@@ -9,7 +9,6 @@ use crate::moves::Cells;
 use crate::moves::Move;
 use crate::state::Answer;
 use crate::state::Counts;
-use crate::state::PageNo;
 use crate::state::Places;
 use crate::state::ReadingNo;
 use crate::state::Ring;

@@ -149,7 +149,7 @@ fn used_fit(used: &[u32; 17], n: u32, slots: u32) -> bool
     ok
 }
 
-// All of the shape but the counts and the slots: where things stand. An action keeps it, while a count may be taken past its limit.
+// All of the shape but the counts and the slots' numbers: where things stand.
 pub fn layout_fits<'a>(
     size: Size,
     places: Places,

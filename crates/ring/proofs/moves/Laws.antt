@@ -1,7 +1,7 @@
 -- What holds in the last arm of a match on a move, `_ => ..`: there the move is known by the numbers of the variants that are left. A fact of each
 -- of these variants is a fact of the move.
 -- Assumes nothing.
-use mathlib.Core.Logic.{_⊎_, inl, inr}
+use mathlib.Core.Logic.{inl, inr}
 use mathlib.Core.List.{List, [], _∷_}
 use Prim.Native.Nat.{ℕ}
 use lib.ListN.{getD}

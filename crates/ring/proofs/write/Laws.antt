@@ -6,12 +6,12 @@ use Prim.Native.Nat.{ℕ, _-_, _≤_}
 use native.Mathlib.Omega.{arith}
 use borrow.Author.Tests.{eqb-false, ltb-true}
 use lib.Dec.{eqb, ltb}
-use Rattle.ring.specs.Limits.{mostPages, mostSlots, stop, header, update}
+use Rattle.ring.specs.Limits.{mostPages, stop, header, update}
 use Rattle.ring.specs.State.{wordAt, usedAt, top}
 use Rattle.ring.specs.Refusals.{writeVerdict}
 use Rattle.ring.specs.Words.{pageIn, flagIn, samePage, readerOnCommit, links, findHeader}
 use Rattle.ring.specs.Shape.{writerFits}
-use Rattle.ring.specs.Write.{planFull, planWant, planMark, promoteBy, planPhase, planWrite}
+use Rattle.ring.specs.Write.{planFull, promoteBy, planPhase, planWrite}
 use Rattle.ring.specs.Pieces.{MoveFits}
 use Rattle.ring.specs.declared.state.PageNo.{PageNo}
 use Rattle.ring.specs.declared.state.WriterPhase.{WriterPhase}

@@ -1,10 +1,10 @@
 -- `plan_full` is the rule of a full tail page: the tests of the cases, in their order. Each test of the code is named here as the rule has it.
 -- Assumes nothing.
 use mathlib.Core.Path.{_≡_}
-use mathlib.Core.Bool.{true, false, _&&_, _||_}
+use mathlib.Core.Bool.{false, _&&_}
 use borrow.Author.Tests.{eq-eqb, ne-eqb}
 use lib.Dec.{eqb}
-use Rattle.ring.specs.Limits.{stop, header, update}
+use Rattle.ring.specs.Limits.{stop, header}
 use Rattle.ring.specs.Words.{samePage, readerOnCommit}
 use Rattle.ring.proofs.write.plan_full.Statement.{statement}
 use Rattle.ring.proofs.write.plan_full.Tie as tie
@@ -44,16 +44,27 @@ returns-2 : tie.Need-returns-2
 returns-2 c = rw (not-a (c .before .before .before), eq-eqb _ _ (c .if2 .taken))
 
 returns-3 : tie.Need-returns-3
-returns-3 c = rw (not-a (c .before .before .before .before .before), not-b (c .before .before), c .if3 .taken)
+returns-3 c =
+    let past-b = c .before .before in
+    rw (not-a (past-b .before .before .before), not-b past-b, c .if3 .taken)
 
 returns-4 : tie.Need-returns-4
-returns-4 c = rw (not-a (c .before .before .before .before .before .before .before), not-b (c .before .before .before .before), not-c (c .before .before), c .if4 .taken)
+returns-4 c =
+    let past-c = c .before .before in
+    let past-b = past-c .before .before in
+    rw (not-a (past-b .before .before .before), not-b past-b, not-c past-c, c .if4 .taken)
 
 returns-5 : tie.Need-returns-5
-returns-5 c = rw (not-a (c .before .before .before .before .before .before .before .before), not-b (c .before .before .before .before .before), not-c (c .before .before .before), not-d (c .before), c .if5 .taken)
+returns-5 c =
+    let past-c = c .before .before .before in
+    let past-b = past-c .before .before in
+    rw (not-a (past-b .before .before .before), not-b past-b, not-c past-c, not-d (c .before), c .if5 .taken)
 
 returns-6 : tie.Need-returns-6
-returns-6 c = rw (not-a (c .before .before .before .before .before .before .before .before), not-b (c .before .before .before .before .before), not-c (c .before .before .before), not-d (c .before), c .if5 .left)
+returns-6 c =
+    let past-c = c .before .before .before in
+    let past-b = past-c .before .before in
+    rw (not-a (past-b .before .before .before), not-b past-b, not-c past-c, not-d (c .before), c .if5 .left)
 
 pub plan-full-spec : {M : Type 1} → statement M
 plan-full-spec = tie.close (tie.spec returns returns-2 returns-3 returns-4 returns-5 returns-6)

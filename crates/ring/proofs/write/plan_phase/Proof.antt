@@ -7,10 +7,14 @@ use Rattle.ring.proofs.write.plan_phase.Statement.{statement}
 use Rattle.ring.proofs.write.plan_phase.Tie as tie
 
 plan-mark-requires : tie.Need-plan-mark-requires
-plan-mark-requires c κs = omega (arith, pages-fit (c .before .phase .given .0 .0) (c .before .phase .given .0 .1 .0) (c .before .before .before .args .size .pages) (rw (c .before .phase .given .1) at (c .before .before .before .pre .2)))
+plan-mark-requires c κs =
+    let p = c .before .phase .given in
+    omega (arith, pages-fit (p .0 .0) (p .0 .1 .0) (c .before .before .before .args .size .pages) (rw (p .1) at (c .before .before .before .pre .2)))
 
 plan-clear-requires : tie.Need-plan-clear-requires
-plan-clear-requires c κs = omega (arith, pages-fit (c .before .phase3 .given .0 .0) (c .before .phase3 .given .0 .1 .0) (c .before .before .before .args .size .pages) (rw (c .before .phase3 .given .1) at (c .before .before .before .pre .2)))
+plan-clear-requires c κs =
+    let p = c .before .phase3 .given in
+    omega (arith, pages-fit (p .0 .0) (p .0 .1 .0) (c .before .before .before .args .size .pages) (rw (p .1) at (c .before .before .before .pre .2)))
 
 returns : tie.Need-returns
 returns c = rw (c .before .enum-told .given .1) (c .plan-want .ensures)

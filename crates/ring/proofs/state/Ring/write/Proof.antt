@@ -1,6 +1,6 @@
--- `Ring::write` is the rule. The verdict is that of the definition, since the code tests all of the shape but the slots' numbers, and those are 32 bits wide.
--- Where it is Allowed, the move is the rule's, each piece is what the move leaves of it, and the cells that are stored to are within the arrays; so each
--- arm of the match returns the rule's outcome. Assumes nothing.
+-- `Ring::write` is the rule. The verdict is that of the definition, since the code tests all of the shape but the slots' numbers, and those are 32 bits
+-- wide. Where it is Allowed, the move is the rule's, each piece is what the move leaves of it, and the cells that are stored to are within the arrays; so
+-- each arm of the match returns the rule's outcome. Assumes nothing.
 use mathlib.Core.Path.{_≡_, sym, ap, _∙_}
 use mathlib.Core.Bool.{Bool, _&&_}
 use Prim.Native.Nat.{ℕ, _≤_, _<_}
@@ -11,8 +11,8 @@ use mir.Val.{Fits}
 use lib.ListN.{getD}
 use Rattle.ring.specs.Limits.{mostPages, slotRoom}
 use Rattle.ring.specs.State.{top}
-use Rattle.ring.specs.Shape.{inShape}
 use Rattle.ring.specs.Refusals.{writeVerdict}
+use Rattle.ring.specs.Shape.{inShape}
 use Rattle.ring.specs.Write.{planWrite, writeRule}
 use Rattle.ring.specs.Pieces.{MoveFits}
 use Rattle.ring.specs.declared.state.Ring.{Ring}
@@ -27,10 +27,10 @@ narrow c i = search needs
 
 -- ---- the verdict
 
--- the ring that the method is given
 abbrev start : tie.After-write-verdict → tie.Start
 start c = c .before .before .before .before .before .before .before .before .before .before .before
 
+-- the ring that the method is given
 abbrev self : tie.After-write-verdict → Ring
 self c = start c .args .t1
 
@@ -41,6 +41,9 @@ fitting c = tested-inShape (self c) (c .before .before .before .before .before .
 -- and so is its verdict
 verdict : (c : tie.After-write-verdict) → c .write-verdict .result ≡ writeVerdict (inShape (self c)) (self c .depth)
 verdict c = c .write-verdict .ensures ∙ ap (λ (b : Bool). writeVerdict b (self c .depth)) (fitting c)
+
+returns : tie.Need-returns
+returns c = rw (sym (verdict (c .before .before .before)) ∙ c .before .why .given .1)
 
 -- ---- where it is Allowed
 
@@ -53,40 +56,13 @@ allowed c = allows _ _ (sym (verdict (c .before .before)) ∙ c .enum-told .give
 shaped : (c : tie.After-enum-told) → InShape (given c)
 shaped c = in-shape (given c) (allowed c .shape)
 
--- the move is the rule's, and names only what the ring has room for
-planned : (c : tie.After-plan-phase) → c .plan-phase .result ≡ planWrite (given (c .before .before .before .before .before))
-planned c = c .plan-phase .ensures
-
-planned-fits : (c : tie.After-plan-phase) → MoveFits (c .plan-phase .result)
-planned-fits c =
-    let s = c .before .before .before .before .before in
-    rw (planned c) (plan-fits (given s) (shaped s) (allowed s .some))
-
--- ---- when every call is made
-
--- the rule's outcome, with the pieces as the code has them
-left : (c : tie.After-depth-after) → writeRule (given (c .before .before .before .before .before .before .before .before .before .before .before .before .before .before .before .before .before)) ≡ leaves (given (c .before .before .before .before .before .before .before .before .before .before .before .before .before .before .before .before .before)) (c .before .before .before .before .before .before .before .before .before .before .before .answer-after .result) (c .before .before .before .before .before .before .before .record-after .result) (c .before .before .before .before .counts-after .result) (c .before .places-after .result) (c .depth-after .result) (c .before .before .before .before .before .before .before .before .cells-after .result)
-left c =
-    write-leaves (given (c .before .before .before .before .before .before .before .before .before .before .before .before .before .before .before .before .before)) (allowed (c .before .before .before .before .before .before .before .before .before .before .before .before .before .before .before .before .before)) (planned (c .before .before .before .before .before .before .before .before .before .before .before .before))
-    (c .before .before .before .before .before .before .before .before .before .before .before .answer-after .ensures) (c .before .before .before .before .before .before .before .record-after .ensures) (c .before .before .before .before .counts-after .ensures) (c .before .places-after .ensures)
-    (c .depth-after .ensures) (c .before .before .before .before .before .before .before .before .cells-after .ensures)
-
-cells-within : (c : tie.After-depth-after) → CellsFit (c .before .before .before .before .before .before .before .before .cells-after .result)
-cells-within c =
-    let r = given (c .before .before .before .before .before .before .before .before .before .before .before .before .before .before .before .before .before) in
-    let s = shaped (c .before .before .before .before .before .before .before .before .before .before .before .before .before .before .before .before .before) in
-    rw (c .before .before .before .before .before .before .before .before .cells-after .ensures) (cells-fit (r .size) (r .counts .taken) (top r .value) (r .words) (s .slots-most) (c .before .before .before .before .before .before .before .before .before .before .before .before .plan-phase .result) (planned-fits (c .before .before .before .before .before .before .before .before .before .before .before .before)))
-
--- ---- what the calls and the stores ask
-
-returns : tie.Need-returns
-returns c = rw (sym (verdict (c .before .before .before)) ∙ c .before .why .given .1)
-
 sub-top : tie.Need-sub-top
 sub-top c = omega (arith, allowed c)
 
 element-copy-out-w : tie.Need-element-copy-out-w
 element-copy-out-w c = omega (arith, shaped c, allowed c)
+
+-- ---- the move
 
 plan-phase-requires : tie.Need-plan-phase-requires
 plan-phase-requires c κs =
@@ -94,25 +70,70 @@ plan-phase-requires c κs =
     let s = shaped e in
     (omega (arith, s), omega (arith, s), top-fits (given e) s (allowed e .some))
 
+abbrev told : tie.After-plan-phase → tie.After-enum-told
+told c = c .before .before .before .before .before
+
+planned : (c : tie.After-plan-phase) → c .plan-phase .result ≡ planWrite (given (told c))
+planned c = c .plan-phase .ensures
+
+-- it names only what the ring has room for
+planned-fits : (c : tie.After-plan-phase) → MoveFits (c .plan-phase .result)
+planned-fits c = rw (planned c) (plan-fits (given (told c)) (shaped (told c)) (allowed (told c) .some))
+
+-- ---- the pieces
+
 answer-after-requires : tie.Need-answer-after-requires
-answer-after-requires c κs = omega (arith, shaped (c .before .before .before .before .before))
+answer-after-requires c κs = omega (arith, shaped (told c))
 
 cells-after-requires : tie.Need-cells-after-requires
-cells-after-requires c κs = (planned-fits (c .before .before .before), omega (arith, shaped (c .before .before .before .before .before .before .before .before)))
+cells-after-requires c κs = (planned-fits (c .before .before .before), omega (arith, shaped (told (c .before .before .before))))
 
 element-set-from-self : tie.Need-element-set-from-self
-element-set-from-self c = omega (arith, shaped (c .before .before .before .before .before .before .before .before .before .before), allowed (c .before .before .before .before .before .before .before .before .before .before))
+element-set-from-self c =
+    let e = told (c .before .before .before .before .before) in
+    omega (arith, shaped e, allowed e)
 
 counts-after-requires : tie.Need-counts-after-requires
 counts-after-requires c κs =
-    let s = shaped (c .before .before .before .before .before .before .before .before .before .before .before .before) in
+    let s = shaped (told (c .before .before .before .before .before .before .before)) in
     (planned-fits (c .before .before .before .before .before .before .before), s .taken, s .overwritten, s .dropped)
 
 places-after-requires : tie.Need-places-after-requires
-places-after-requires c κs = omega (arith, shaped (c .before .before .before .before .before .before .before .before .before .before .before .before .before .before .before))
+places-after-requires c κs = omega (arith, shaped (told (c .before .before .before .before .before .before .before .before .before .before)))
 
 depth-after-requires : tie.Need-depth-after-requires
-depth-after-requires c κs = omega (arith, allowed (c .before .before .before .before .before .before .before .before .before .before .before .before .before .before .before .before))
+depth-after-requires c κs = omega (arith, allowed (told (c .before .before .before .before .before .before .before .before .before .before .before)))
+
+-- ---- when every call is made
+
+-- the rule's outcome, with the pieces as the code has them
+left :
+    (c : tie.After-depth-after) →
+    let m = c .before .before .before .before .before .before .before .before .before .before .before .before in
+    writeRule (given (told m))
+    ≡ leaves (given (told m))
+    (c .before .before .before .before .before .before .before .before .before .before .before .answer-after .result)
+    (c .before .before .before .before .before .before .before .record-after .result)
+    (c .before .before .before .before .counts-after .result)
+    (c .before .places-after .result)
+    (c .depth-after .result)
+    (c .before .before .before .before .before .before .before .before .cells-after .result)
+left c =
+    let m = c .before .before .before .before .before .before .before .before .before .before .before .before in
+    write-leaves (given (told m)) (allowed (told m)) (planned m)
+    (c .before .before .before .before .before .before .before .before .before .before .before .answer-after .ensures)
+    (c .before .before .before .before .before .before .before .record-after .ensures)
+    (c .before .before .before .before .counts-after .ensures)
+    (c .before .places-after .ensures)
+    (c .depth-after .ensures)
+    (c .before .before .before .before .before .before .before .before .cells-after .ensures)
+
+cells-within : (c : tie.After-depth-after) → CellsFit (c .before .before .before .before .before .before .before .before .cells-after .result)
+cells-within c =
+    let m = c .before .before .before .before .before .before .before .before .before .before .before .before in
+    let r = given (told m) in
+    rw (c .before .before .before .before .before .before .before .before .cells-after .ensures)
+    (cells-fit (r .size) (r .counts .taken) (top r .value) (r .words) (shaped (told m) .slots-most) (m .plan-phase .result) (planned-fits m))
 
 -- ---- the arms
 
@@ -161,7 +182,7 @@ write-spec =
     answer-after-requires
     cells-after-requires
     (λ c κs. search needs)
-    (λ c. omega (arith, shaped (c .before .before .before .before .before .before .before .before .before .before)))
+    (λ c. omega (arith, shaped (told (c .before .before .before .before .before))))
     element-set-from-self
     counts-after-requires
     places-after-requires
