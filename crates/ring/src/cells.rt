@@ -1,13 +1,14 @@
 // What stands where: the cells of a page, and the place of a slot in the arrays of slots.
 ghost use mathlib.Core.Path.{_≡_};
 ghost use Prim.Native.Nat.{_≤_};
+ghost use Rattle.ring.specs.Limits.{mostPages};
 ghost use Rattle.ring.specs.State.{wordAt, usedAt, slotIndex};
 use crate::state::PageNo;
 use crate::state::Size;
 
 // The word of a page.
 pub(crate) fn word_at(words: &[u32; 17], p: PageNo) -> u32
-    requires { ⌜ p .0 ≤ 16 ⌝ }
+    requires { ⌜ p .0 ≤ mostPages ⌝ }
     ensures { λ r. ⌜ r ≡ wordAt (now (words .entry)) p ⌝ }
 {
     let at = p.0 as usize;
@@ -16,7 +17,7 @@ pub(crate) fn word_at(words: &[u32; 17], p: PageNo) -> u32
 
 // How many slots of a page are reserved.
 pub(crate) fn used_at(used: &[u32; 17], p: PageNo) -> u32
-    requires { ⌜ p .0 ≤ 16 ⌝ }
+    requires { ⌜ p .0 ≤ mostPages ⌝ }
     ensures { λ r. ⌜ r ≡ usedAt (now (used .entry)) p ⌝ }
 {
     let at = p.0 as usize;

@@ -1,6 +1,7 @@
 // What a Write leaves in each piece of the ring, once it is decided which rule applies.
 ghost use mathlib.Core.Path.{_≡_};
 ghost use Prim.Native.Nat.{_≤_};
+ghost use Rattle.ring.specs.Limits.{mostPages, mostCount};
 ghost use Rattle.ring.specs.Pieces.{answerAfter, recordAfter, countsAfter, placesAfter, depthAfter, cellsAfter, MoveFits};
 use crate::cells::slot_index;
 use crate::cells::used_at;
@@ -19,7 +20,7 @@ use crate::words::page_in;
 use crate::words::word_of;
 
 pub(crate) fn answer_after(m: Move, taken: u64) -> Answer
-    requires { ⌜ taken ≤ 4294967295 ⌝ }
+    requires { ⌜ taken ≤ mostCount ⌝ }
     ensures { λ r. ⌜ r ≡ answerAfter m taken ⌝ }
 {
     let number = ReadingNo(taken as u32);
@@ -61,7 +62,7 @@ pub(crate) fn record_after(m: Move, value: u32) -> Writer
 }
 
 pub(crate) fn counts_after(m: Move, counts: Counts, used: &[u32; 17]) -> Counts
-    requires { ⌜ MoveFits m × (counts .taken ≤ 4294967295) × (counts .overwritten ≤ 4294967295) × (counts .dropped ≤ 4294967295) ⌝ }
+    requires { ⌜ MoveFits m × (counts .taken ≤ mostCount) × (counts .overwritten ≤ mostCount) × (counts .dropped ≤ mostCount) ⌝ }
     ensures { λ r. ⌜ r ≡ countsAfter m counts (now (used .entry)) ⌝ }
 {
     let mut next = counts;
@@ -79,7 +80,7 @@ pub(crate) fn counts_after(m: Move, counts: Counts, used: &[u32; 17]) -> Counts
 }
 
 pub(crate) fn places_after(m: Move, places: Places, used: &[u32; 17]) -> Places
-    requires { ⌜ places .tail .0 ≤ 16 ⌝ }
+    requires { ⌜ places .tail .0 ≤ mostPages ⌝ }
     ensures { λ r. ⌜ r ≡ placesAfter m places (now (used .entry)) ⌝ }
 {
     let mut next = places;
@@ -109,7 +110,7 @@ pub(crate) fn depth_after(m: Move, depth: u32) -> u32
 
 // The cells that the rule stores to.
 pub(crate) fn cells_after(m: Move, size: Size, taken: u64, value: u32, words: &[u32; 17]) -> Cells
-    requires { ⌜ MoveFits m × (taken ≤ 4294967295) ⌝ }
+    requires { ⌜ MoveFits m × (taken ≤ mostCount) ⌝ }
     ensures { λ r. ⌜ r ≡ cellsAfter m size taken value (now (words .entry)) ⌝ }
 {
     match m {

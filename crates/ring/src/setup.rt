@@ -1,6 +1,7 @@
 // Set-up: the fresh ring and the plain ring.
 ghost use mathlib.Core.Path.{_≡_};
 ghost use Prim.Native.Nat.{_≤_};
+ghost use Rattle.ring.specs.Limits.{mostPages};
 ghost use Rattle.ring.specs.State.{blank};
 ghost use Rattle.ring.specs.Answers.{outcome};
 ghost use Rattle.ring.specs.SetUp.{freshNext, freshFlag, freshWord, freshWords, freshRing, plainRing, freshRule};
@@ -21,7 +22,7 @@ use crate::words::word_of;
 
 // The page in the word of page i, in a fresh ring of n pages.
 fn fresh_next(n: u32, i: u32) -> u32
-    requires { ⌜ i ≤ 16 ⌝ }
+    requires { ⌜ i ≤ mostPages ⌝ }
     ensures { λ r. ⌜ r ≡ freshNext n i ⌝ }
 {
     if i + 1 < n { i + 1 } else { 0 }
@@ -29,7 +30,7 @@ fn fresh_next(n: u32, i: u32) -> u32
 
 // The flag in it.
 fn fresh_flag(n: u32, i: u32) -> u32
-    requires { ⌜ i ≤ 16 ⌝ }
+    requires { ⌜ i ≤ mostPages ⌝ }
     ensures { λ r. ⌜ r ≡ freshFlag n i ⌝ }
 {
     if i + 1 == n {
@@ -40,7 +41,7 @@ fn fresh_flag(n: u32, i: u32) -> u32
 }
 
 fn fresh_word(n: u32, i: u32) -> u32
-    requires { ⌜ i ≤ 16 ⌝ }
+    requires { ⌜ i ≤ mostPages ⌝ }
     ensures { λ r. ⌜ r ≡ freshWord n i ⌝ }
 {
     let next = fresh_next(n, i);

@@ -2,6 +2,7 @@
 // Tests are joined by `&`, since none of them can trap, and a loop goes through all of its places.
 ghost use mathlib.Core.Path.{_≡_};
 ghost use Prim.Native.Nat.{_≤_};
+ghost use Rattle.ring.specs.Limits.{mostPages};
 ghost use Rattle.ring.specs.Shape.{sizeFits, placesFit, countsSmall, countsFit, pagesFit, heldFits, writerFits, readerFits, stackFits, wordFits, wordsFit, usedFit, layoutFits, inShape};
 use crate::state::Counts;
 use crate::state::PageNo;
@@ -121,7 +122,7 @@ fn word_fits(w: u32, n: u32) -> bool
 }
 
 fn words_fit(words: &[u32; 17], n: u32) -> bool
-    requires { ⌜ n ≤ 16 ⌝ }
+    requires { ⌜ n ≤ mostPages ⌝ }
     ensures { λ r. ⌜ r ≡ wordsFit (now (words .entry)) n ⌝ }
 {
     let top = n as usize;
@@ -136,7 +137,7 @@ fn words_fit(words: &[u32; 17], n: u32) -> bool
 }
 
 fn used_fit(used: &[u32; 17], n: u32, slots: u32) -> bool
-    requires { ⌜ n ≤ 16 ⌝ }
+    requires { ⌜ n ≤ mostPages ⌝ }
     ensures { λ r. ⌜ r ≡ usedFit (now (used .entry)) n slots ⌝ }
 {
     let top = n as usize;

@@ -1,6 +1,7 @@
 // Link words: 4 * (next page) + flag. They are split, joined and searched here and nowhere else.
 ghost use mathlib.Core.Path.{_≡_};
 ghost use Prim.Native.Nat.{_≤_};
+ghost use Rattle.ring.specs.Limits.{mostPages};
 ghost use Rattle.ring.specs.Words.{pageIn, flagIn, wordOf, links, findHeader};
 use crate::cells::word_at;
 use crate::moves::Search;
@@ -30,7 +31,7 @@ pub fn word_of(page: PageNo, flag: u32) -> u64
 
 // Whether the word of page p is n with this flag.
 pub(crate) fn links(words: &[u32; 17], p: PageNo, n: PageNo, flag: u32) -> bool
-    requires { ⌜ p .0 ≤ 16 ⌝ }
+    requires { ⌜ p .0 ≤ mostPages ⌝ }
     ensures { λ r. ⌜ r ≡ links (now (words .entry)) p n flag ⌝ }
 {
     let w = word_at(words, p);
@@ -39,7 +40,7 @@ pub(crate) fn links(words: &[u32; 17], p: PageNo, n: PageNo, flag: u32) -> bool
 
 // The lowest page up to n, other than the reader page, whose word is HEADER.
 pub(crate) fn find_header(words: &[u32; 17], n: u32, reader: PageNo) -> Search
-    requires { ⌜ n ≤ 16 ⌝ }
+    requires { ⌜ n ≤ mostPages ⌝ }
     ensures { λ r. ⌜ r ≡ findHeader (now (words .entry)) n reader ⌝ }
 {
     let mut p: u32 = 0;

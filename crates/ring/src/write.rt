@@ -3,6 +3,7 @@
 ghost use mathlib.Core.Path.{_≡_};
 ghost use mathlib.Core.Bool.{true};
 ghost use Prim.Native.Nat.{_≤_};
+ghost use Rattle.ring.specs.Limits.{mostPages};
 ghost use Rattle.ring.specs.Answers.{outcome};
 ghost use Rattle.ring.specs.Refusals.{writeVerdict};
 ghost use Rattle.ring.specs.Shape.{writerFits};
@@ -59,7 +60,7 @@ fn plan_full(size: Size, places: Places, n: PageNo, flag: u32) -> Move
 }
 
 fn plan_want<'a>(size: Size, places: Places, words: &'a [u32; 17], used: &'a [u32; 17]) -> Move
-    requires { ⌜ places .tail .0 ≤ 16 ⌝ }
+    requires { ⌜ places .tail .0 ≤ mostPages ⌝ }
     ensures { λ r. ⌜ r ≡ planWant size places (now (words .entry)) (now (used .entry)) ⌝ }
 {
     let t = places.tail;
@@ -72,7 +73,7 @@ fn plan_want<'a>(size: Size, places: Places, words: &'a [u32; 17], used: &'a [u3
 }
 
 fn plan_mark(t: PageNo, n: PageNo, words: &[u32; 17]) -> Move
-    requires { ⌜ t .0 ≤ 16 ⌝ }
+    requires { ⌜ t .0 ≤ mostPages ⌝ }
     ensures { λ r. ⌜ r ≡ planMark t n (now (words .entry)) ⌝ }
 {
     if links(words, t, n, Ring::HEADER) {
@@ -102,7 +103,7 @@ fn plan_promote(
     own: bool,
     words: &[u32; 17],
 ) -> Move
-    requires { ⌜ size .pages ≤ 16 ⌝ }
+    requires { ⌜ size .pages ≤ mostPages ⌝ }
     ensures { λ r. ⌜ r ≡ planPromote size places t n own (now (words .entry)) ⌝ }
 {
     let next = after_promote(t, n, own);
@@ -114,7 +115,7 @@ fn plan_promote(
 }
 
 fn plan_clear(t: PageNo, n: PageNo, words: &[u32; 17]) -> Move
-    requires { ⌜ t .0 ≤ 16 ⌝ }
+    requires { ⌜ t .0 ≤ mostPages ⌝ }
     ensures { λ r. ⌜ r ≡ planClear t n (now (words .entry)) ⌝ }
 {
     if links(words, t, n, Ring::UPDATE) {
@@ -149,7 +150,7 @@ pub(crate) fn plan_phase<'a>(
     words: &'a [u32; 17],
     used: &'a [u32; 17],
 ) -> Move
-    requires { ⌜ (size .pages ≤ 16) × (places .tail .0 ≤ 16) × (writerFits (w .phase) size ≡ true) ⌝ }
+    requires { ⌜ (size .pages ≤ mostPages) × (places .tail .0 ≤ mostPages) × (writerFits (w .phase) size ≡ true) ⌝ }
     ensures { λ r. ⌜ r ≡ planPhase (w .phase) size places depth (now (words .entry)) (now (used .entry)) ⌝ }
 {
     let phase = w.phase;
