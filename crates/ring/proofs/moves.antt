@@ -1,2 +1,2 @@
--- Moves: the law of the last arm of a match on one.
+-- Verdicts and moves: what a match on one tells.
 pub mod Laws

@@ -1,6 +1,6 @@
--- What a Write leaves in each piece of the ring, by the move that was decided. No rule is told again: a piece is what the rule of specs/Write leaves
--- of it on a ring that has the pieces given, and is blank elsewhere. For code that stores pieces; that the pieces together are the rule on
--- the whole ring is `moved-pieces` (proofs/pieces/Laws).
+-- What a Write leaves in each piece of the ring, by the move that was decided: for code that stores a piece at a time. A piece is what the rule of
+-- specs/Write leaves of it on a ring that has the pieces given and is blank elsewhere. The cells of the arrays alone are listed again, since a
+-- store names a place (`storesAfter`). That all of these together are the rule on the whole ring is `moved-pieces` (proofs/pieces/Laws).
 -- Assumes nothing.
 use mathlib.Core.List.{List}
 use Prim.Native.Nat.{ℕ, _+_, _≤_, _<_}
@@ -18,9 +18,10 @@ use Rattle.ring.specs.declared.state.Answer.{Answer}
 use Rattle.ring.specs.declared.state.Ring.{Ring}
 use Rattle.ring.specs.declared.moves.Move.{Move}
 use Rattle.ring.specs.declared.moves.Move.the-variants.{Become, Reserve, Drop, Mark, Promote, Clear, Push, Fill, Pend, Commit}
-use Rattle.ring.specs.declared.moves.Cells.{Cells}
-use Rattle.ring.specs.declared.moves.Cells.the-variants as cells
+use Rattle.ring.specs.declared.moves.Stores.{Stores}
+use Rattle.ring.specs.declared.moves.Stores.the-variants as stores
 
+-- a ring of zeros; no piece below depends on its size
 abbrev pub empty : Ring
 empty = blank (sizeOf 0 0 0)
 
@@ -41,25 +42,25 @@ abbrev pub recordAfter : Move → ℕ → Writer
 recordAfter m value = recordAt (moved m (withDepth 1 (setRecord 0 (writer value Want) empty)) .ring .stack) 0
 
 -- the cells that the rule stores to: at most two, each named
-abbrev pub cellsAfter : Move → Size → ℕ → ℕ → List ℕ → Cells
-cellsAfter (Become next a) size taken value words = cells.Same
-cellsAfter (Reserve t slot) size taken value words = cells.Number (slotIndex size t slot) (reading taken) t (slot + 1)
-cellsAfter Drop size taken value words = cells.Same
-cellsAfter (Mark t n) size taken value words = cells.Take t (wordOf n update) n
-cellsAfter (Promote n next) size taken value words = cells.Word n (wordOf (pageIn (wordAt words n)) header)
-cellsAfter (Clear t n) size taken value words = cells.Word t (wordOf n normal)
-cellsAfter (Push n) size taken value words = cells.Same
-cellsAfter (Fill p slot) size taken value words = cells.Value (slotIndex size p slot) value
-cellsAfter Pend size taken value words = cells.Same
-cellsAfter Commit size taken value words = cells.Same
+abbrev pub storesAfter : Move → Size → ℕ → ℕ → List ℕ → Stores
+storesAfter (Become next a) size taken value words = stores.Same
+storesAfter (Reserve t slot) size taken value words = stores.Number (slotIndex size t slot) (reading taken) t (slot + 1)
+storesAfter Drop size taken value words = stores.Same
+storesAfter (Mark t n) size taken value words = stores.Take t (wordOf n update) n
+storesAfter (Promote n next) size taken value words = stores.Word n (wordOf (pageIn (wordAt words n)) header)
+storesAfter (Clear t n) size taken value words = stores.Word t (wordOf n normal)
+storesAfter (Push n) size taken value words = stores.Same
+storesAfter (Fill p slot) size taken value words = stores.Value (slotIndex size p slot) value
+storesAfter Pend size taken value words = stores.Same
+storesAfter Commit size taken value words = stores.Same
 
-abbrev pub stored : Cells → Ring → Ring
-stored cells.Same r = r
-stored (cells.Number at number t k) r =
+abbrev pub stored : Stores → Ring → Ring
+stored stores.Same r = r
+stored (stores.Number at number t k) r =
     withUsed (set (r .used) (t .0) k) (withNumbers (set (r .numbers) at (number .0)) r)
-stored (cells.Take t word n) r = withUsed (set (r .used) (n .0) 0) (withWords (set (r .words) (t .0) word) r)
-stored (cells.Word p word) r = withWords (set (r .words) (p .0) word) r
-stored (cells.Value at value) r = withValues (set (r .values) at value) r
+stored (stores.Take t word n) r = withUsed (set (r .used) (n .0) 0) (withWords (set (r .words) (t .0) word) r)
+stored (stores.Word p word) r = withWords (set (r .words) (p .0) word) r
+stored (stores.Value at value) r = withValues (set (r .values) at value) r
 
 -- the pages and slots that a move names are such as the ring has room for: what the code that reads and stores them asks
 abbrev pub MoveFits : Move → Type 0

@@ -26,7 +26,7 @@ use Rattle.ring.specs.declared.moves.Move.the-variants.{Become, Reserve,
 
 -- ---- which rule applies
 
--- "WANT, t full: n is the page in t's word. First that applies"; the flag is that of t's word
+-- t full: "First that applies", for a page n and a flag
 abbrev pub planFull : Size → Places → PageNo → ℕ → Move
 planFull size places n flag =
     first
@@ -44,7 +44,7 @@ planFull size places n flag =
     -- f. flag NORMAL: PUSH (t, n).
     (Become (phase.Push (places .tail) n) answer.Looked)
 
--- "WANT, tail page t with used < S": the slot is the one whose number is t's used
+-- "WANT, tail page t with used < S": the slot is the one whose number is t's used. "WANT, t full: n is the page in t's word", and the flag is that word's.
 abbrev pub planWant : Size → Places → List ℕ → List ℕ → Move
 planWant size places words used =
     cond (ltb (usedAt used (places .tail)) (size .slots))
@@ -70,6 +70,7 @@ abbrev pub promoteBy : Search → PageNo → WriterPhase → Move
 promoteBy (At p h) n next = Become next answer.Standing
 promoteBy Nowhere n next = Promote n next
 
+-- the look at every page but the reader page, and "n's word becomes HEADER" if it finds none
 abbrev pub planPromote : Size → Places → PageNo → PageNo → Bool → List ℕ → Move
 planPromote size places t n own words =
     promoteBy (findHeader words (size .pages) (places .reader)) n (afterPromote t n own)
@@ -96,6 +97,7 @@ planPhase (phase.Push t n) size places depth words used = planPush places t n
 planPhase (phase.Held p slot) size places depth words used = Fill p slot
 planPhase phase.Filled size places depth words used = planFilled depth
 
+-- the top record of the ring
 abbrev pub planWrite : Ring → Move
 planWrite r = planPhase (top r .phase) (r .size) (r .places) (r .depth) (r .words) (r .used)
 
@@ -140,6 +142,7 @@ commit r =
     withCommitPage (r .places .tail)
     (withCommitIndex (usedAt (r .used) (r .places .tail)) (withCommitted (r .counts .taken) (pop r)))
 
+-- each rule's answer, with the ring that it leaves: "Answer Reserved(number)", "Dropped", "Answer Marked", and so on; Committed tells committed, which is now taken
 abbrev pub moved : Move → Ring → Outcome
 moved (Become next a) r = gives a (setPhase next r)
 moved (Reserve t slot) r = gives (answer.Reserved (reading (r .counts .taken))) (reserve t slot r)
@@ -153,5 +156,7 @@ moved Pend r = gives answer.Pending (pop r)
 moved Commit r = gives (answer.Committed (r .counts .taken)) (commit r)
 
 -- ---- the action
+
+-- refused by SHAPE or NOBODY, or else the step
 abbrev pub writeRule : Ring → Outcome
 writeRule r = judged (writeVerdict (inShape r) (r .depth)) r (moved (planWrite r) r)

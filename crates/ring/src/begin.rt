@@ -30,6 +30,7 @@ fn begin_verdict(fit: bool, depth: u32, begun: u64) -> Verdict
 }
 
 impl Ring {
+    // A new writer with this value. Refused with SHAPE out of shape, with DEPTH at depth 4, and with WORN where begun is at its limit.
     pub fn begin(mut self, value: u32) -> Step
         ensures { λ r. ⌜ outcome r ≡ beginRule self value ⌝ }
     {

@@ -4,7 +4,7 @@ pub mod state; // the ring and its parts
 pub mod moves; // what an action decides before it stores
 pub mod answers; // refusals by number
 pub mod cells; // what stands where in the arrays
-pub mod words; // link words, split and joined
+pub mod words; // link words, split, joined and searched
 pub mod shape; // the test of shape
 pub mod setup; // fresh and plain
 pub mod begin; // Begin

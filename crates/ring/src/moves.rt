@@ -40,7 +40,7 @@ pub enum Move {
 }
 
 // The cells of the arrays that a Write stores to. A slot is named by its place in the arrays of slots.
-pub enum Cells {
+pub enum Stores {
     Same,
     // a slot and the number that it gets; its page and the page's used
     Number(usize, ReadingNo, PageNo, u32),

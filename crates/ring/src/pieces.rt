@@ -2,12 +2,12 @@
 ghost use mathlib.Core.Path.{_≡_};
 ghost use Prim.Native.Nat.{_≤_};
 ghost use Rattle.ring.specs.Limits.{mostPages, mostCount};
-ghost use Rattle.ring.specs.Pieces.{answerAfter, recordAfter, countsAfter, placesAfter, depthAfter, cellsAfter, MoveFits};
+ghost use Rattle.ring.specs.Pieces.{answerAfter, recordAfter, countsAfter, placesAfter, depthAfter, storesAfter, MoveFits};
 use crate::cells::slot_index;
 use crate::cells::used_at;
 use crate::cells::word_at;
-use crate::moves::Cells;
 use crate::moves::Move;
+use crate::moves::Stores;
 use crate::state::Answer;
 use crate::state::Counts;
 use crate::state::Places;
@@ -19,6 +19,7 @@ use crate::state::WriterPhase;
 use crate::words::page_in;
 use crate::words::word_of;
 
+// The answer; `taken` is the count before the step.
 pub(crate) fn answer_after(m: Move, taken: u64) -> Answer
     requires { ⌜ taken ≤ mostCount ⌝ }
     ensures { λ r. ⌜ r ≡ answerAfter m taken ⌝ }
@@ -38,11 +39,11 @@ pub(crate) fn answer_after(m: Move, taken: u64) -> Answer
     }
 }
 
-// The record's next phase; a popped record is reset.
+// The top record: its value with the next phase. A popped one is reset.
 pub(crate) fn record_after(m: Move, value: u32) -> Writer
     ensures { λ r. ⌜ r ≡ recordAfter m value ⌝ }
 {
-    let none = Writer {
+    let no_writer = Writer {
         value: 0,
         phase: WriterPhase::Want,
     };
@@ -54,13 +55,14 @@ pub(crate) fn record_after(m: Move, value: u32) -> Writer
         Move::Clear(t, n) => WriterPhase::Push(t, n),
         Move::Push(_) => WriterPhase::Want,
         Move::Fill(_, _) => WriterPhase::Filled,
-        _ => {
-            return none;
+        Move::Drop | Move::Pend | Move::Commit => {
+            return no_writer;
         }
     };
     Writer { value, phase }
 }
 
+// The loss is counted at the mark: by the push another writer may have pushed. A sum past its limit is kept, and 64 bits hold it.
 pub(crate) fn counts_after(m: Move, counts: Counts, used: &[u32; 17]) -> Counts
     requires { ⌜ MoveFits m × (counts .taken ≤ mostCount) × (counts .overwritten ≤ mostCount) × (counts .dropped ≤ mostCount) ⌝ }
     ensures { λ r. ⌜ r ≡ countsAfter m counts (now (used .entry)) ⌝ }
@@ -79,6 +81,7 @@ pub(crate) fn counts_after(m: Move, counts: Counts, used: &[u32; 17]) -> Counts
     next
 }
 
+// A push moves the tail, a commit the commit page and index.
 pub(crate) fn places_after(m: Move, places: Places, used: &[u32; 17]) -> Places
     requires { ⌜ places .tail .0 ≤ mostPages ⌝ }
     ensures { λ r. ⌜ r ≡ placesAfter m places (now (used .entry)) ⌝ }
@@ -96,47 +99,46 @@ pub(crate) fn places_after(m: Move, places: Places, used: &[u32; 17]) -> Places
     next
 }
 
+// One less where the record is popped.
 pub(crate) fn depth_after(m: Move, depth: u32) -> u32
     requires { ⌜ 1 ≤ depth ⌝ }
     ensures { λ r. ⌜ r ≡ depthAfter m depth ⌝ }
 {
     match m {
-        Move::Drop => depth - 1,
-        Move::Pend => depth - 1,
-        Move::Commit => depth - 1,
+        Move::Drop | Move::Pend | Move::Commit => depth - 1,
         _ => depth,
     }
 }
 
 // The cells that the rule stores to.
-pub(crate) fn cells_after(m: Move, size: Size, taken: u64, value: u32, words: &[u32; 17]) -> Cells
+pub(crate) fn stores_after(m: Move, size: Size, taken: u64, value: u32, words: &[u32; 17]) -> Stores
     requires { ⌜ MoveFits m × (taken ≤ mostCount) ⌝ }
-    ensures { λ r. ⌜ r ≡ cellsAfter m size taken value (now (words .entry)) ⌝ }
+    ensures { λ r. ⌜ r ≡ storesAfter m size taken value (now (words .entry)) ⌝ }
 {
     match m {
         Move::Reserve(t, slot) => {
             let at = slot_index(size, t, slot);
             let number = taken as u32;
             let used = slot + 1;
-            Cells::Number(at, ReadingNo(number), t, used)
+            Stores::Number(at, ReadingNo(number), t, used)
         }
         Move::Mark(t, n) => {
             let word = word_of(n, Ring::UPDATE) as u32;
-            Cells::Take(t, word, n)
+            Stores::Take(t, word, n)
         }
         Move::Promote(n, _) => {
             let next = page_in(word_at(words, n));
             let word = word_of(next, Ring::HEADER) as u32;
-            Cells::Word(n, word)
+            Stores::Word(n, word)
         }
         Move::Clear(t, n) => {
             let word = word_of(n, Ring::NORMAL) as u32;
-            Cells::Word(t, word)
+            Stores::Word(t, word)
         }
         Move::Fill(p, slot) => {
             let at = slot_index(size, p, slot);
-            Cells::Value(at, value)
+            Stores::Value(at, value)
         }
-        _ => Cells::Same,
+        _ => Stores::Same,
     }
 }

@@ -67,11 +67,11 @@ impl Ring {
     fn blank(size: Size) -> Ring
         ensures { λ r. ⌜ r ≡ blank size ⌝ }
     {
-        let none = Writer {
+        let no_writer = Writer {
             value: 0,
             phase: WriterPhase::Want,
         };
-        let stack = [none; 4];
+        let stack = [no_writer; 4];
         let reader = Reader {
             phase: ReaderPhase::Idle,
         };

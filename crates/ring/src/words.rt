@@ -38,7 +38,7 @@ pub(crate) fn links(words: &[u32; 17], p: PageNo, n: PageNo, flag: u32) -> bool
     (w as u64) == word_of(n, flag)
 }
 
-// The lowest page up to n, other than the reader page, whose word is HEADER.
+// The lowest page up to n, other than the reader page, whose word is HEADER. A word that the reader has prepared is no ring mark.
 pub(crate) fn find_header(words: &[u32; 17], n: u32, reader: PageNo) -> Search
     requires { ⌜ n ≤ mostPages ⌝ }
     ensures { λ r. ⌜ r ≡ findHeader (now (words .entry)) n reader ⌝ }

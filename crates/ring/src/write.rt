@@ -10,16 +10,16 @@ ghost use Rattle.ring.specs.Shape.{writerFits};
 ghost use Rattle.ring.specs.Write.{planFull, planWant, planMark, afterPromote, planPromote, planClear, planPush, planFilled, planPhase, writeRule};
 use crate::cells::used_at;
 use crate::cells::word_at;
-use crate::moves::Cells;
 use crate::moves::Move;
 use crate::moves::Search;
+use crate::moves::Stores;
 use crate::moves::Verdict;
 use crate::pieces::answer_after;
-use crate::pieces::cells_after;
 use crate::pieces::counts_after;
 use crate::pieces::depth_after;
 use crate::pieces::places_after;
 use crate::pieces::record_after;
+use crate::pieces::stores_after;
 use crate::shape::counts_fit;
 use crate::shape::layout_fits;
 use crate::state::Answer;
@@ -41,24 +41,31 @@ fn plan_full(size: Size, places: Places, n: PageNo, flag: u32) -> Move
     ensures { λ r. ⌜ r ≡ planFull size places n flag ⌝ }
 {
     let t = places.tail;
+    // a
     if t.0 == places.reader.0 {
         return Move::Become(WriterPhase::Push(t, n), Answer::Looked);
     }
+    // b
     if n.0 == places.commit.0 {
         return Move::Drop;
     }
+    // c
     if (flag == Ring::HEADER) & (places.commit.0 == places.reader.0) {
         return Move::Drop;
     }
+    // d
     if (flag == Ring::HEADER) & (size.mode == Ring::STOP) {
         return Move::Drop;
     }
+    // e
     if (flag == Ring::HEADER) | (flag == Ring::UPDATE) {
         return Move::Become(WriterPhase::Mark(t, n), Answer::Looked);
     }
+    // f
     Move::Become(WriterPhase::Push(t, n), Answer::Looked)
 }
 
+// WANT: a slot of the tail page, if it has one left.
 fn plan_want<'a>(size: Size, places: Places, words: &'a [u32; 17], used: &'a [u32; 17]) -> Move
     requires { ⌜ places .tail .0 ≤ mostPages ⌝ }
     ensures { λ r. ⌜ r ≡ planWant size places (now (words .entry)) (now (used .entry)) ⌝ }
@@ -72,6 +79,7 @@ fn plan_want<'a>(size: Size, places: Places, words: &'a [u32; 17], used: &'a [u3
     plan_full(size, places, page_in(w), flag_in(w))
 }
 
+// MARK. A mark that is there already is another writer's, and that one clears it.
 fn plan_mark(t: PageNo, n: PageNo, words: &[u32; 17]) -> Move
     requires { ⌜ t .0 ≤ mostPages ⌝ }
     ensures { λ r. ⌜ r ≡ planMark t n (now (words .entry)) ⌝ }
@@ -85,6 +93,7 @@ fn plan_mark(t: PageNo, n: PageNo, words: &[u32; 17]) -> Move
     Move::Become(WriterPhase::Want, Answer::Retry)
 }
 
+// What follows PROMOTE.
 fn after_promote(t: PageNo, n: PageNo, own: bool) -> WriterPhase
     ensures { λ r. ⌜ r ≡ afterPromote t n own ⌝ }
 {
@@ -95,6 +104,7 @@ fn after_promote(t: PageNo, n: PageNo, own: bool) -> WriterPhase
     }
 }
 
+// PROMOTE. By a look at every ring page and not by n's word: the reader may have swapped the page after n.
 fn plan_promote(
     size: Size,
     places: Places,
@@ -114,6 +124,7 @@ fn plan_promote(
     }
 }
 
+// CLEAR.
 fn plan_clear(t: PageNo, n: PageNo, words: &[u32; 17]) -> Move
     requires { ⌜ t .0 ≤ mostPages ⌝ }
     ensures { λ r. ⌜ r ≡ planClear t n (now (words .entry)) ⌝ }
@@ -125,6 +136,7 @@ fn plan_clear(t: PageNo, n: PageNo, words: &[u32; 17]) -> Move
     }
 }
 
+// PUSH. Another writer may have pushed since t was seen.
 fn plan_push(places: Places, t: PageNo, n: PageNo) -> Move
     ensures { λ r. ⌜ r ≡ planPush places t n ⌝ }
 {
@@ -135,13 +147,14 @@ fn plan_push(places: Places, t: PageNo, n: PageNo) -> Move
     }
 }
 
+// FILLED. Only the outermost writer commits.
 fn plan_filled(depth: u32) -> Move
     ensures { λ r. ⌜ r ≡ planFilled depth ⌝ }
 {
     if depth == 1 { Move::Commit } else { Move::Pend }
 }
 
-// Which rule applies to the top record, by its phase.
+// Which rule applies to the top record, by its phase. The record is passed whole, since a field that is an enum is not passed by itself.
 pub(crate) fn plan_phase<'a>(
     w: Writer,
     size: Size,
@@ -179,6 +192,7 @@ fn write_verdict(fit: bool, depth: u32) -> Verdict
 }
 
 impl Ring {
+    // One step of the writer on top. Refused with SHAPE out of shape, and with NOBODY where no writer is at work.
     pub fn write(mut self) -> Step
         ensures { λ r. ⌜ outcome r ≡ writeRule self ⌝ }
     {
@@ -198,23 +212,23 @@ impl Ring {
         let w = self.stack[top];
         let m = plan_phase(w, size, places, depth, &self.words, &self.used);
         let answer = answer_after(m, counts.taken);
-        let cells = cells_after(m, size, counts.taken, w.value, &self.words);
+        let stores = stores_after(m, size, counts.taken, w.value, &self.words);
         self.stack[top] = record_after(m, w.value);
         self.counts = counts_after(m, counts, &self.used);
         self.places = places_after(m, places, &self.used);
         self.depth = depth_after(m, depth);
-        match cells {
-            Cells::Same => (),
-            Cells::Number(at, number, t, used) => {
+        match stores {
+            Stores::Same => (),
+            Stores::Number(at, number, t, used) => {
                 self.numbers[at] = number.0;
                 self.used[t.0 as usize] = used;
             }
-            Cells::Take(t, word, n) => {
+            Stores::Take(t, word, n) => {
                 self.words[t.0 as usize] = word;
                 self.used[n.0 as usize] = 0;
             }
-            Cells::Word(p, word) => self.words[p.0 as usize] = word,
-            Cells::Value(at, value) => self.values[at] = value,
+            Stores::Word(p, word) => self.words[p.0 as usize] = word,
+            Stores::Value(at, value) => self.values[at] = value,
         }
         Step { ring: self, answer }
     }

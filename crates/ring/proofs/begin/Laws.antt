@@ -3,17 +3,13 @@
 use mathlib.Core.Path.{_≡_, refl}
 use mathlib.Core.Bool.{Bool, true, false}
 use Prim.Native.Nat.{ℕ}
-use native.Mathlib.Omega.{arith}
 use borrow.Author.Tests.{eqb-false}
 use lib.Dec.{eqb}
 use Rattle.ring.specs.Limits.{mostDepth, mostCount}
 use Rattle.ring.specs.Refusals.{beginVerdict}
-use Rattle.ring.specs.declared.state.Refusal.{Refusal}
-use Rattle.ring.specs.declared.moves.Verdict.the-variants.{Allowed, Refused}
+use Rattle.ring.specs.declared.moves.Verdict.the-variants.{Allowed}
 use Rattle.ring.proofs.Lists.{by-bool}
-
-pub refused-is-not-allowed : (why : Refusal) → Refused why ≡ Allowed → ⊥
-refused-is-not-allowed why h = let z : _≡_ {A = ℕ} 0 1 = cc in omega arith
+use Rattle.ring.proofs.moves.Laws.{refused-is-not-allowed}
 
 pub record Allows (fits : Bool) (depth begun : ℕ) : Type 0 where
   pub shape : fits ≡ true

@@ -1,21 +1,28 @@
--- What holds in the last arm of a match on a move, `_ => ..`: there the move is known by the numbers of the variants that are left. A fact of each
--- of these variants is a fact of the move.
+-- A verdict is not both of its kinds. And what holds in an arm of a match on a move that is for several variants, as `_ => ..`: there the move is known by the
+-- numbers of these variants, and a fact of each of them is a fact of the move.
 -- Assumes nothing.
+use mathlib.Core.Path.{_≡_}
 use mathlib.Core.Logic.{inl, inr}
 use mathlib.Core.List.{List, [], _∷_}
 use Prim.Native.Nat.{ℕ}
+use native.Mathlib.Omega.{arith}
 use lib.ListN.{getD}
 use types.Run.{OneOf}
 use denote.Enum.Declared.{tagOf}
 use Rattle.ring.specs.declared.state.PageNo.{PageNo}
 use Rattle.ring.specs.declared.state.WriterPhase.{WriterPhase}
 use Rattle.ring.specs.declared.state.Answer.{Answer}
+use Rattle.ring.specs.declared.state.Refusal.{Refusal}
+use Rattle.ring.specs.declared.moves.Verdict.the-variants.{Allowed, Refused}
 use Rattle.ring.specs.declared.moves.Move.{Move}
 use Rattle.ring.specs.declared.moves.Move.the-variants.{Become, Reserve, Drop, Mark, Promote, Clear, Push, Fill, Pend, Commit}
 use Rattle.ring.proofs.moves.Move.{the-type}
 
+pub refused-is-not-allowed : (why : Refusal) → Refused why ≡ Allowed → ⊥
+refused-is-not-allowed why h = let z : _≡_ {A = ℕ} 0 1 = cc in omega arith
+
 module _ (P : Move → Type 0) where
-  -- P of the variant with this number, whatever it holds
+  -- P of the variant with this number, whatever it holds; they are numbered from 0 in the order of moves.rt
   abbrev At : ℕ → Type 0
   At k =
       getD

@@ -10,7 +10,7 @@ use Rattle.ring.specs.State.{withStack, withCounts, withPlaces, withDept
 use Rattle.ring.specs.Shape.{inShape}
 use Rattle.ring.specs.Answers.{Outcome, gives}
 use Rattle.ring.specs.Write.{moved, planWrite, writeRule}
-use Rattle.ring.specs.Pieces.{answerAfter, countsAfter, placesAfter, depthAfter, recordAfter, cellsAfter, stored, MoveFits}
+use Rattle.ring.specs.Pieces.{answerAfter, countsAfter, placesAfter, depthAfter, recordAfter, storesAfter, stored, MoveFits}
 use Rattle.ring.specs.declared.state.Size.{Size}
 use Rattle.ring.specs.declared.state.Places.{Places}
 use Rattle.ring.specs.declared.state.Counts.{Counts}
@@ -19,13 +19,13 @@ use Rattle.ring.specs.declared.state.Answer.{Answer}
 use Rattle.ring.specs.declared.state.Ring.{Ring}
 use Rattle.ring.specs.declared.moves.Move.{Move}
 use Rattle.ring.specs.declared.moves.Move.the-variants.{Become, Reserve, Drop, Mark, Promote, Clear, Push, Fill, Pend, Commit}
-use Rattle.ring.specs.declared.moves.Cells.{Cells}
-use Rattle.ring.specs.declared.moves.Cells.the-variants as cells
+use Rattle.ring.specs.declared.moves.Stores.{Stores}
+use Rattle.ring.specs.declared.moves.Stores.the-variants as stores
 use Rattle.ring.proofs.state.Laws.{slotIndex-room}
 use Rattle.ring.proofs.write.Laws.{Allows}
 
 -- the outcome with each piece given
-abbrev pub leaves : Ring → Answer → Writer → Counts → Places → ℕ → Cells → Outcome
+abbrev pub leaves : Ring → Answer → Writer → Counts → Places → ℕ → Stores → Outcome
 leaves r a w counts places depth c =
     gives a (withStack (set (r .stack) (r .depth - 1) w) (withCounts counts (withPlaces places (withDepth depth (stored c r)))))
 
@@ -34,7 +34,7 @@ abbrev pub leavesBy : Move → Ring → Outcome
 leavesBy m r =
     leaves r (answerAfter m (r .counts .taken)) (recordAfter m (top r .value)) (countsAfter m (r .counts) (r .used))
     (placesAfter m (r .places) (r .used)) (depthAfter m (r .depth))
-    (cellsAfter m (r .size) (r .counts .taken) (top r .value) (r .words))
+    (storesAfter m (r .size) (r .counts .taken) (top r .value) (r .words))
 
 pub moved-pieces : (m : Move) (r : Ring) → moved m r ≡ leavesBy m r
 moved-pieces (Become next a) r = refl
@@ -50,7 +50,7 @@ moved-pieces Commit r = refl
 
 -- a Write that is allowed leaves these pieces
 pub write-leaves :
-    (r : Ring) {m : Move} {a : Answer} {w : Writer} {counts : Counts} {places : Places} {depth : ℕ} {c : Cells} →
+    (r : Ring) {m : Move} {a : Answer} {w : Writer} {counts : Counts} {places : Places} {depth : ℕ} {c : Stores} →
     Allows (inShape r) (r .depth) →
     m ≡ planWrite r →
     a ≡ answerAfter m (r .counts .taken) →
@@ -58,27 +58,27 @@ pub write-leaves :
     counts ≡ countsAfter m (r .counts) (r .used) →
     places ≡ placesAfter m (r .places) (r .used) →
     depth ≡ depthAfter m (r .depth) →
-    c ≡ cellsAfter m (r .size) (r .counts .taken) (top r .value) (r .words) →
+    c ≡ storesAfter m (r .size) (r .counts .taken) (top r .value) (r .words) →
     writeRule r ≡ leaves r a w counts places depth c
 write-leaves r {m} ok e ea ew ek ep ed ec =
-    rw (ok .shape, ne-eqb (r .depth) 0 (ok .some), ← e, ea, ew, ek, ep, ed, ec) (moved-pieces m r)
+    rw (ok .shape, ne-eqb (r .depth) 0 (ok .somebody), ← e, ea, ew, ek, ep, ed, ec) (moved-pieces m r)
 
-abbrev pub CellsFit : Cells → Type 0
-CellsFit cells.Same = Unit {0}
-CellsFit (cells.Number at number t used) = (at < slotRoom) × (t .0 ≤ mostPages)
-CellsFit (cells.Take t word n) = (t .0 ≤ mostPages) × (n .0 ≤ mostPages)
-CellsFit (cells.Word p word) = p .0 ≤ mostPages
-CellsFit (cells.Value at value) = at < slotRoom
+abbrev pub StoresFit : Stores → Type 0
+StoresFit stores.Same = Unit {0}
+StoresFit (stores.Number at number t used) = (at < slotRoom) × (t .0 ≤ mostPages)
+StoresFit (stores.Take t word n) = (t .0 ≤ mostPages) × (n .0 ≤ mostPages)
+StoresFit (stores.Word p word) = p .0 ≤ mostPages
+StoresFit (stores.Value at value) = at < slotRoom
 
 module _ (size : Size) (taken value : ℕ) (words : List ℕ) (le : size .slots ≤ mostSlots) where
-  pub cells-fit : (m : Move) → MoveFits m → CellsFit (cellsAfter m size taken value words)
-  cells-fit (Become next a) h = tt
-  cells-fit (Reserve t slot) h = (slotIndex-room size t slot (h .0) le (h .1), h .0)
-  cells-fit Drop h = tt
-  cells-fit (Mark t n) h = h
-  cells-fit (Promote n next) h = h
-  cells-fit (Clear t n) h = h .0
-  cells-fit (Push n) h = tt
-  cells-fit (Fill p slot) h = slotIndex-room size p slot (h .0) le (h .1)
-  cells-fit Pend h = tt
-  cells-fit Commit h = tt
+  pub stores-fit : (m : Move) → MoveFits m → StoresFit (storesAfter m size taken value words)
+  stores-fit (Become next a) h = tt
+  stores-fit (Reserve t slot) h = (slotIndex-room size t slot (h .0) le (h .1), h .0)
+  stores-fit Drop h = tt
+  stores-fit (Mark t n) h = h
+  stores-fit (Promote n next) h = h
+  stores-fit (Clear t n) h = h .0
+  stores-fit (Push n) h = tt
+  stores-fit (Fill p slot) h = slotIndex-room size p slot (h .0) le (h .1)
+  stores-fit Pend h = tt
+  stores-fit Commit h = tt

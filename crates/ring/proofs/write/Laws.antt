@@ -21,19 +21,19 @@ use Rattle.ring.specs.declared.moves.Search.{Search}
 use Rattle.ring.specs.declared.moves.Search.the-variants.{At, Nowhere}
 use Rattle.ring.specs.declared.moves.Verdict.the-variants.{Allowed}
 use Rattle.ring.proofs.Lists.{by-bool, by-cond}
-use Rattle.ring.proofs.begin.Laws.{refused-is-not-allowed}
+use Rattle.ring.proofs.moves.Laws.{refused-is-not-allowed}
 use Rattle.ring.proofs.shape.Laws.{InShape, pages-fit, held-fits}
 
 pub record Allows (fits : Bool) (depth : ℕ) : Type 0 where
   pub shape : fits ≡ true
-  pub some : depth ≡ 0 → ⊥
+  pub somebody : depth ≡ 0 → ⊥
 
 pub allows : (fits : Bool) (depth : ℕ) → writeVerdict fits depth ≡ Allowed → Allows fits depth
 allows false depth h = absurd (refused-is-not-allowed _ h)
 allows true depth h =
     by-bool (eqb depth 0)
     (λ d. absurd (refused-is-not-allowed _ (rw d at h)))
-    (λ d. record { shape = refl; some = eqb-false depth 0 d })
+    (λ d. record { shape = refl; somebody = eqb-false depth 0 d })
 
 -- a full tail page leads to a drop or to another phase, which name nothing to store to
 full-fits : (r : Ring) (n : PageNo) (flag : ℕ) → MoveFits (planFull (r .size) (r .places) n flag)
@@ -73,7 +73,7 @@ module _ (r : Ring) (s : InShape r) where
       (omega (arith, s), omega (arith, s))
   phase-fits phase.Filled h = by-cond MoveFits (eqb (r .depth) 1) (λ e. tt) (λ e. tt)
 
-  module _ (some : r .depth ≡ 0 → ⊥) where
+  module _ (somebody : r .depth ≡ 0 → ⊥) where
     -- the top record's phase fits, and so does the move that it leads to
     pub top-fits : writerFits (top r .phase) (r .size) ≡ true
     top-fits = s .record-at (r .depth - 1) (omega arith)

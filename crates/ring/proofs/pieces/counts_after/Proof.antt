@@ -28,6 +28,7 @@ returns-3 c = rw (c .before .before .before .m .given .1, c .before .used-at .en
 returns-4 : tie.Need-returns-4
 returns-4 c = rw (c .enum-told3 .given .1)
 
+-- Become, Promote, Clear, Push, Fill, Pend: the counts stay
 returns-5 : tie.Need-returns-5
 returns-5 c =
     let a = c .before .args in

@@ -15,6 +15,7 @@ returns c = rw (c .before .m .given .1)
 returns-2 : tie.Need-returns-2
 returns-2 c = rw (c .before .before .enum-told .given .1, c .used-at .ensures)
 
+-- every move but Push and Commit: the places stay
 returns-3 : tie.Need-returns-3
 returns-3 c =
     let a = c .before .args in

@@ -10,6 +10,7 @@ use Rattle.ring.proofs.moves.Laws.{of-numbers}
 use Rattle.ring.proofs.pieces.record_after.Statement.{statement}
 use Rattle.ring.proofs.pieces.record_after.Tie as tie
 
+-- Drop, Pend, Commit: the record is popped
 returns : tie.Need-returns
 returns c =
     let a = c .before .args in

@@ -1,4 +1,4 @@
--- `plan_full` is the rule of a full tail page: the tests of the cases, in their order. Each test of the code is named here as the rule has it.
+-- `plan_full` is the rule of a full tail page: the tests of the cases, in their order. The tests that failed are named as the rule has them.
 -- Assumes nothing.
 use mathlib.Core.Path.{_≡_}
 use mathlib.Core.Bool.{false, _&&_}

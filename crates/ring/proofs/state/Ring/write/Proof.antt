@@ -18,7 +18,7 @@ use Rattle.ring.specs.Pieces.{MoveFits}
 use Rattle.ring.specs.declared.state.Ring.{Ring}
 use Rattle.ring.proofs.shape.Laws.{InShape, in-shape, tested-inShape}
 use Rattle.ring.proofs.write.Laws.{Allows, allows, top-fits, plan-fits}
-use Rattle.ring.proofs.pieces.Laws.{leaves, write-leaves, CellsFit, cells-fit}
+use Rattle.ring.proofs.pieces.Laws.{leaves, write-leaves, StoresFit, stores-fit}
 use Rattle.ring.proofs.state.Ring.write.Statement.{statement}
 use Rattle.ring.proofs.state.Ring.write.Tie as tie
 
@@ -68,101 +68,101 @@ plan-phase-requires : tie.Need-plan-phase-requires
 plan-phase-requires c κs =
     let e = c .before .before .before .before in
     let s = shaped e in
-    (omega (arith, s), omega (arith, s), top-fits (given e) s (allowed e .some))
+    (omega (arith, s), omega (arith, s), top-fits (given e) s (allowed e .somebody))
 
-abbrev told : tie.After-plan-phase → tie.After-enum-told
-told c = c .before .before .before .before .before
+abbrev allowed-at : tie.After-plan-phase → tie.After-enum-told
+allowed-at c = c .before .before .before .before .before
 
-planned : (c : tie.After-plan-phase) → c .plan-phase .result ≡ planWrite (given (told c))
+planned : (c : tie.After-plan-phase) → c .plan-phase .result ≡ planWrite (given (allowed-at c))
 planned c = c .plan-phase .ensures
 
 -- it names only what the ring has room for
 planned-fits : (c : tie.After-plan-phase) → MoveFits (c .plan-phase .result)
-planned-fits c = rw (planned c) (plan-fits (given (told c)) (shaped (told c)) (allowed (told c) .some))
+planned-fits c = rw (planned c) (plan-fits (given (allowed-at c)) (shaped (allowed-at c)) (allowed (allowed-at c) .somebody))
 
 -- ---- the pieces
 
 answer-after-requires : tie.Need-answer-after-requires
-answer-after-requires c κs = omega (arith, shaped (told c))
+answer-after-requires c κs = omega (arith, shaped (allowed-at c))
 
-cells-after-requires : tie.Need-cells-after-requires
-cells-after-requires c κs = (planned-fits (c .before .before .before), omega (arith, shaped (told (c .before .before .before))))
+stores-after-requires : tie.Need-stores-after-requires
+stores-after-requires c κs = (planned-fits (c .before .before .before), omega (arith, shaped (allowed-at (c .before .before .before))))
 
 element-set-from-self : tie.Need-element-set-from-self
 element-set-from-self c =
-    let e = told (c .before .before .before .before .before) in
+    let e = allowed-at (c .before .before .before .before .before) in
     omega (arith, shaped e, allowed e)
 
 counts-after-requires : tie.Need-counts-after-requires
 counts-after-requires c κs =
-    let s = shaped (told (c .before .before .before .before .before .before .before)) in
+    let s = shaped (allowed-at (c .before .before .before .before .before .before .before)) in
     (planned-fits (c .before .before .before .before .before .before .before), s .taken, s .overwritten, s .dropped)
 
 places-after-requires : tie.Need-places-after-requires
-places-after-requires c κs = omega (arith, shaped (told (c .before .before .before .before .before .before .before .before .before .before)))
+places-after-requires c κs = omega (arith, shaped (allowed-at (c .before .before .before .before .before .before .before .before .before .before)))
 
 depth-after-requires : tie.Need-depth-after-requires
-depth-after-requires c κs = omega (arith, allowed (told (c .before .before .before .before .before .before .before .before .before .before .before)))
+depth-after-requires c κs = omega (arith, allowed (allowed-at (c .before .before .before .before .before .before .before .before .before .before .before)))
 
 -- ---- when every call is made
 
--- the rule's outcome, with the pieces as the code has them
-left :
+-- the rule's outcome, with the pieces as the code has them. (Places are spelled out here: a name for one that holds the stores would stop `rw` below.)
+outcome-left :
     (c : tie.After-depth-after) →
-    let m = c .before .before .before .before .before .before .before .before .before .before .before .before in
-    writeRule (given (told m))
-    ≡ leaves (given (told m))
+    let d = c .before .before .before .before .before .before .before .before .before .before .before .before in
+    writeRule (given (allowed-at d))
+    ≡ leaves (given (allowed-at d))
     (c .before .before .before .before .before .before .before .before .before .before .before .answer-after .result)
     (c .before .before .before .before .before .before .before .record-after .result)
     (c .before .before .before .before .counts-after .result)
     (c .before .places-after .result)
     (c .depth-after .result)
-    (c .before .before .before .before .before .before .before .before .cells-after .result)
-left c =
-    let m = c .before .before .before .before .before .before .before .before .before .before .before .before in
-    write-leaves (given (told m)) (allowed (told m)) (planned m)
+    (c .before .before .before .before .before .before .before .before .stores-after .result)
+outcome-left c =
+    let d = c .before .before .before .before .before .before .before .before .before .before .before .before in
+    write-leaves (given (allowed-at d)) (allowed (allowed-at d)) (planned d)
     (c .before .before .before .before .before .before .before .before .before .before .before .answer-after .ensures)
     (c .before .before .before .before .before .before .before .record-after .ensures)
     (c .before .before .before .before .counts-after .ensures)
     (c .before .places-after .ensures)
     (c .depth-after .ensures)
-    (c .before .before .before .before .before .before .before .before .cells-after .ensures)
+    (c .before .before .before .before .before .before .before .before .stores-after .ensures)
 
-cells-within : (c : tie.After-depth-after) → CellsFit (c .before .before .before .before .before .before .before .before .cells-after .result)
-cells-within c =
-    let m = c .before .before .before .before .before .before .before .before .before .before .before .before in
-    let r = given (told m) in
-    rw (c .before .before .before .before .before .before .before .before .cells-after .ensures)
-    (cells-fit (r .size) (r .counts .taken) (top r .value) (r .words) (shaped (told m) .slots-most) (m .plan-phase .result) (planned-fits m))
+stores-within : (c : tie.After-depth-after) → StoresFit (c .before .before .before .before .before .before .before .before .stores-after .result)
+stores-within c =
+    let d = c .before .before .before .before .before .before .before .before .before .before .before .before in
+    let r = given (allowed-at d) in
+    rw (c .before .before .before .before .before .before .before .before .stores-after .ensures)
+    (stores-fit (r .size) (r .counts .taken) (top r .value) (r .words) (shaped (allowed-at d) .slots-most) (d .plan-phase .result) (planned-fits d))
 
 -- ---- the arms
 
-number-within : (c : tie.After-cells) → (c .cells .given .0 .0 < slotRoom) × (c .cells .given .0 .1 .1 .0 .0 ≤ mostPages)
-number-within c = rw (c .cells .given .1) at (cells-within (c .before .before))
+number-within : (c : tie.After-stores) → (c .stores .given .0 .0 < slotRoom) × (c .stores .given .0 .1 .1 .0 .0 ≤ mostPages)
+number-within c = rw (c .stores .given .1) at (stores-within (c .before .before))
 
-take-within : (c : tie.After-cells2) → (c .cells2 .given .0 .0 .0 ≤ mostPages) × (c .cells2 .given .0 .1 .1 .0 .0 ≤ mostPages)
-take-within c = rw (c .cells2 .given .1) at (cells-within (c .before .before))
+take-within : (c : tie.After-stores2) → (c .stores2 .given .0 .0 .0 ≤ mostPages) × (c .stores2 .given .0 .1 .1 .0 .0 ≤ mostPages)
+take-within c = rw (c .stores2 .given .1) at (stores-within (c .before .before))
 
-word-within : (c : tie.After-cells3) → c .cells3 .given .0 .0 .0 ≤ mostPages
-word-within c = rw (c .cells3 .given .1) at (cells-within (c .before .before))
+word-within : (c : tie.After-stores3) → c .stores3 .given .0 .0 .0 ≤ mostPages
+word-within c = rw (c .stores3 .given .1) at (stores-within (c .before .before))
 
-value-within : (c : tie.After-cells4) → c .cells4 .given .0 .0 < slotRoom
-value-within c = rw (c .cells4 .given .1) at (cells-within (c .before .before))
+value-within : (c : tie.After-stores4) → c .stores4 .given .0 .0 < slotRoom
+value-within c = rw (c .stores4 .given .1) at (stores-within (c .before .before))
 
 returns-2 : tie.Need-returns-2
-returns-2 c = rw (left (c .before .before), c .enum-told2 .given .1)
+returns-2 c = rw (outcome-left (c .before .before), c .enum-told2 .given .1)
 
 returns-3 : tie.Need-returns-3
-returns-3 c = rw (left (c .before .before .before .before), c .before .before .cells .given .1)
+returns-3 c = rw (outcome-left (c .before .before .before .before), c .before .before .stores .given .1)
 
 returns-4 : tie.Need-returns-4
-returns-4 c = rw (left (c .before .before .before .before .before), c .before .before .before .cells2 .given .1)
+returns-4 c = rw (outcome-left (c .before .before .before .before .before), c .before .before .before .stores2 .given .1)
 
 returns-5 : tie.Need-returns-5
-returns-5 c = rw (left (c .before .before .before .before), c .before .before .cells3 .given .1)
+returns-5 c = rw (outcome-left (c .before .before .before .before), c .before .before .stores3 .given .1)
 
 returns-6 : tie.Need-returns-6
-returns-6 c = rw (left (c .before .before .before), c .before .cells4 .given .1)
+returns-6 c = rw (outcome-left (c .before .before .before), c .before .stores4 .given .1)
 
 pub write-spec : {M : Type 1} → statement M
 write-spec =
@@ -180,9 +180,9 @@ write-spec =
     element-copy-out-w
     plan-phase-requires
     answer-after-requires
-    cells-after-requires
+    stores-after-requires
     (λ c κs. search needs)
-    (λ c. omega (arith, shaped (told (c .before .before .before .before .before))))
+    (λ c. omega (arith, shaped (allowed-at (c .before .before .before .before .before))))
     element-set-from-self
     counts-after-requires
     places-after-requires

@@ -1,16 +1,16 @@
--- `pieces::cells_after` is the definition, by the move. The pages that a move names are at most 16, so a word fits 32 bits; PROMOTE's word does so whatever
+-- `pieces::stores_after` is the definition, by the move. The pages that a move names are at most 16, so a word fits 32 bits; PROMOTE's word does so whatever
 -- page is in it, since that page comes out of a word. Assumes nothing.
 use mathlib.Core.Path.{_≡_, refl}
 use mathlib.Core.List.{[], _∷_}
 use native.Mathlib.Omega.{arith}
 use borrow.Author.Needs.{needs}
 use denote.Ref.{now}
-use Rattle.ring.specs.Pieces.{cellsAfter}
-use Rattle.ring.specs.declared.moves.Cells.the-variants.{Same}
+use Rattle.ring.specs.Pieces.{storesAfter}
+use Rattle.ring.specs.declared.moves.Stores.the-variants.{Same}
 use Rattle.ring.specs.declared.moves.Move.{Move}
 use Rattle.ring.proofs.moves.Laws.{of-numbers}
-use Rattle.ring.proofs.pieces.cells_after.Statement.{statement}
-use Rattle.ring.proofs.pieces.cells_after.Tie as tie
+use Rattle.ring.proofs.pieces.stores_after.Statement.{statement}
+use Rattle.ring.proofs.pieces.stores_after.Tie as tie
 
 add-used : tie.Need-add-used
 add-used c =
@@ -49,15 +49,16 @@ returns-4 c = rw (c .before .before .m4 .given .1, c .word-of3 .ensures)
 returns-5 : tie.Need-returns-5
 returns-5 c = rw (c .before .before .m5 .given .1, c .slot-index2 .ensures)
 
+-- Become, Drop, Push, Pend, Commit: no cell is stored to
 returns-6 : tie.Need-returns-6
 returns-6 c =
     let a = c .before .args in
-    of-numbers (λ (m : Move). Same ≡ cellsAfter m (a .size) (a .taken) (a .value) (now (a .words))) (0 ∷ 2 ∷ 6 ∷ 8 ∷ 9 ∷ []) (a .m)
+    of-numbers (λ (m : Move). Same ≡ storesAfter m (a .size) (a .taken) (a .value) (now (a .words))) (0 ∷ 2 ∷ 6 ∷ 8 ∷ 9 ∷ []) (a .m)
     ((λ next a. refl), (refl, ((λ n. refl), (refl, (refl, tt)))))
     (c .match .keys6)
 
-pub cells-after-spec : {M : Type 1} → statement M
-cells-after-spec =
+pub stores-after-spec : {M : Type 1} → statement M
+stores-after-spec =
     tie.close
     (tie.spec
     (λ c. search needs)
