@@ -106,7 +106,7 @@ depth-after-requires c κs = omega (arith, allowed (allowed-at (c .before .befor
 
 -- ---- when every call is made
 
--- the rule's outcome, with the pieces as the code has them. (Places are spelled out here: a name for one that holds the stores would stop `rw` below.)
+-- the rule's outcome, with the pieces as the code has them. (The ways to the facts are spelled out: a name for a point past the stores would stop `rw` below.)
 outcome-left :
     (c : tie.After-depth-after) →
     let d = c .before .before .before .before .before .before .before .before .before .before .before .before in
