@@ -3,6 +3,7 @@ ghost use mathlib.Core.Path.{_≡_};
 ghost use Rattle.ring.specs.Answers.{outcome};
 ghost use Rattle.ring.specs.Refusals.{beginVerdict};
 ghost use Rattle.ring.specs.Begin.{beginRule};
+use crate::cells::wanting;
 use crate::moves::Verdict;
 use crate::shape::counts_fit;
 use crate::shape::layout_fits;
@@ -10,8 +11,6 @@ use crate::state::Answer;
 use crate::state::Refusal;
 use crate::state::Ring;
 use crate::state::Step;
-use crate::state::Writer;
-use crate::state::WriterPhase;
 
 // Whether a Begin is made or refused; `fit` says whether the ring is in shape.
 fn begin_verdict(fit: bool, depth: u32, begun: u64) -> Verdict
@@ -48,10 +47,7 @@ impl Ring {
         }
         let at = depth as usize;
         let begun = counts.begun + 1;
-        self.stack[at] = Writer {
-            value,
-            phase: WriterPhase::Want,
-        };
+        self.stack[at] = wanting(value);
         self.depth = depth + 1;
         self.counts.begun = begun;
         let answer = Answer::Begun(depth + 1);

@@ -1,10 +1,13 @@
-// What stands where: the cells of a page, and the place of a slot in the arrays of slots.
+// What stands where: the cells of a page, the place of a slot in the arrays of slots, and a record of the stack in phase WANT.
 ghost use mathlib.Core.Path.{_≡_};
 ghost use Prim.Native.Nat.{_≤_};
 ghost use Rattle.ring.specs.Limits.{mostPages};
-ghost use Rattle.ring.specs.State.{wordAt, usedAt, slotIndex};
+ghost use Rattle.ring.specs.State.{wordAt, usedAt, slotIndex, writer};
+ghost use Rattle.ring.specs.declared.state.WriterPhase.the-variants.{Want};
 use crate::state::PageNo;
 use crate::state::Size;
+use crate::state::Writer;
+use crate::state::WriterPhase;
 
 // The word of a page.
 pub(crate) fn word_at(words: &[u32; 17], p: PageNo) -> u32
@@ -25,10 +28,20 @@ pub(crate) fn used_at(used: &[u32; 17], p: PageNo) -> u32
 }
 
 // Where a slot stands. The product and the sum of 32-bit numbers fit 64 bits.
-pub fn slot_index(size: Size, p: PageNo, slot: u32) -> usize
+pub(crate) fn slot_index(size: Size, p: PageNo, slot: u32) -> usize
     ensures { λ r. ⌜ r ≡ slotIndex size p slot ⌝ }
 {
     let page = p.0 as usize;
     let slots = size.slots as usize;
     page * slots + (slot as usize)
+}
+
+// A record in phase WANT: a new writer's, or, with value 0, that of a place which no writer has.
+pub(crate) fn wanting(value: u32) -> Writer
+    ensures { λ r. ⌜ r ≡ writer value Want ⌝ }
+{
+    Writer {
+        value,
+        phase: WriterPhase::Want,
+    }
 }

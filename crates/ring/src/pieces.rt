@@ -5,6 +5,7 @@ ghost use Rattle.ring.specs.Limits.{mostPages, mostCount};
 ghost use Rattle.ring.specs.Pieces.{answerAfter, recordAfter, countsAfter, placesAfter, depthAfter, storesAfter, MoveFits};
 use crate::cells::slot_index;
 use crate::cells::used_at;
+use crate::cells::wanting;
 use crate::cells::word_at;
 use crate::moves::Move;
 use crate::moves::Stores;
@@ -43,10 +44,7 @@ pub(crate) fn answer_after(m: Move, taken: u64) -> Answer
 pub(crate) fn record_after(m: Move, value: u32) -> Writer
     ensures { λ r. ⌜ r ≡ recordAfter m value ⌝ }
 {
-    let no_writer = Writer {
-        value: 0,
-        phase: WriterPhase::Want,
-    };
+    let no_writer = wanting(0);
     let phase = match m {
         Move::Become(next, _) => next,
         Move::Reserve(t, slot) => WriterPhase::Held(t, slot),

@@ -5,6 +5,7 @@ ghost use Rattle.ring.specs.Limits.{mostPages};
 ghost use Rattle.ring.specs.State.{blank};
 ghost use Rattle.ring.specs.Answers.{outcome};
 ghost use Rattle.ring.specs.SetUp.{freshNext, freshFlag, freshWord, freshWords, freshRing, plainRing, freshRule};
+use crate::cells::wanting;
 use crate::shape::size_fits;
 use crate::state::Answer;
 use crate::state::Counts;
@@ -16,8 +17,6 @@ use crate::state::Refusal;
 use crate::state::Ring;
 use crate::state::Size;
 use crate::state::Step;
-use crate::state::Writer;
-use crate::state::WriterPhase;
 use crate::words::word_of;
 
 // The page in the word of page i, in a fresh ring of n pages.
@@ -67,10 +66,7 @@ impl Ring {
     fn blank(size: Size) -> Ring
         ensures { λ r. ⌜ r ≡ blank size ⌝ }
     {
-        let no_writer = Writer {
-            value: 0,
-            phase: WriterPhase::Want,
-        };
+        let no_writer = wanting(0);
         let stack = [no_writer; 4];
         let reader = Reader {
             phase: ReaderPhase::Idle,

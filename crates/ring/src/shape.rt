@@ -16,7 +16,7 @@ use crate::state::WriterPhase;
 use crate::words::flag_in;
 use crate::words::page_in;
 
-pub fn size_fits(s: Size) -> bool
+pub(crate) fn size_fits(s: Size) -> bool
     ensures { λ r. ⌜ r ≡ sizeFits s ⌝ }
 {
     (Ring::LEAST_PAGES <= s.pages)
@@ -48,7 +48,7 @@ fn counts_small(c: Counts) -> bool
 }
 
 // The sums are taken only of counts that are small, so that they do not wrap.
-pub fn counts_fit(c: Counts) -> bool
+pub(crate) fn counts_fit(c: Counts) -> bool
     ensures { λ r. ⌜ r ≡ countsFit c ⌝ }
 {
     if counts_small(c) {
@@ -151,7 +151,7 @@ fn used_fit(used: &[u32; 17], n: u32, slots: u32) -> bool
 }
 
 // All of the shape but the counts and the slots' numbers: where things stand.
-pub fn layout_fits<'a>(
+pub(crate) fn layout_fits<'a>(
     size: Size,
     places: Places,
     reader: Reader,

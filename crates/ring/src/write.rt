@@ -124,7 +124,7 @@ fn plan_promote(
     }
 }
 
-// CLEAR.
+// CLEAR, which only the writer that made the mark comes to.
 fn plan_clear(t: PageNo, n: PageNo, words: &[u32; 17]) -> Move
     requires { ⌜ t .0 ≤ mostPages ⌝ }
     ensures { λ r. ⌜ r ≡ planClear t n (now (words .entry)) ⌝ }

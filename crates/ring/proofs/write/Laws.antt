@@ -10,7 +10,7 @@ use Rattle.ring.specs.Limits.{mostPages, stop, header, update}
 use Rattle.ring.specs.State.{wordAt, usedAt, top}
 use Rattle.ring.specs.Refusals.{writeVerdict}
 use Rattle.ring.specs.Words.{pageIn, flagIn, samePage, readerOnCommit, links, findHeader}
-use Rattle.ring.specs.Shape.{writerFits}
+use Rattle.ring.specs.Shape.{pagesFit, writerFits}
 use Rattle.ring.specs.Write.{planFull, promoteBy, planPhase, planWrite}
 use Rattle.ring.specs.Pieces.{MoveFits}
 use Rattle.ring.specs.declared.state.PageNo.{PageNo}
@@ -50,7 +50,7 @@ promote-fits (At p h) n next le = tt
 promote-fits Nowhere n next le = le
 
 module _ (r : Ring) (s : InShape r) where
-  pages-room : (t n : PageNo) → writerFits (phase.Mark t n) (r .size) ≡ true → (t .0 ≤ mostPages) × (n .0 ≤ mostPages)
+  pages-room : (t n : PageNo) → pagesFit t n (r .size .pages) ≡ true → (t .0 ≤ mostPages) × (n .0 ≤ mostPages)
   pages-room t n h =
       let f = pages-fit t n (r .size .pages) h in
       (omega (arith, s), omega (arith, s))

@@ -13,8 +13,9 @@ use Rattle.ring.proofs.pieces.record_after.Tie as tie
 -- Drop, Pend, Commit: the record is popped
 returns : tie.Need-returns
 returns c =
-    let a = c .before .args in
-    of-numbers (λ (m : Move). noWriter ≡ recordAfter m (a .value)) (2 ∷ 8 ∷ 9 ∷ []) (a .m) (refl, (refl, (refl, tt))) (c .match .keys8)
+    let a = c .before .before .args in
+    rw (c .before .wanting .ensures)
+    (of-numbers (λ (m : Move). noWriter ≡ recordAfter m (a .value)) (2 ∷ 8 ∷ 9 ∷ []) (a .m) (refl, (refl, (refl, tt))) (c .match .keys8))
 
 returns-2 : tie.Need-returns-2
 returns-2 c = rw (c .before .m .given .1)
@@ -41,6 +42,7 @@ pub record-after-spec : {M : Type 1} → statement M
 record-after-spec =
     tie.close
     (tie.spec
+    (λ c κs. search needs)
     (λ c. search needs)
     (λ c. search needs)
     (λ c. search needs)

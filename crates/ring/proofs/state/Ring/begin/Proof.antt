@@ -50,13 +50,15 @@ add-begun : tie.Need-add-begun
 add-begun c = omega (arith, shaped (c .before))
 
 element-set-from-self : tie.Need-element-set-from-self
-element-set-from-self c = omega (arith, shaped (c .before), allowed (c .before))
+element-set-from-self c = omega (arith, shaped (c .before .before), allowed (c .before .before))
 
 add-self : tie.Need-add-self
-add-self c = omega (arith, shaped (c .before))
+add-self c = omega (arith, shaped (c .before .before))
 
 returns-2 : tie.Need-returns-2
-returns-2 c = rw (sym (verdict (c .before .before .before .before)) ∙ c .before .before .enum-told .given .1)
+returns-2 c =
+    let e = c .before .before .before in
+    rw (sym (verdict (e .before .before)) ∙ e .enum-told .given .1, c .before .wanting .ensures)
 
 pub begin-spec : {M : Type 1} → statement M
 begin-spec =
@@ -70,8 +72,9 @@ begin-spec =
     (λ c. search needs)
     (λ c. search needs)
     add-begun
+    (λ c κs. search needs)
     (λ c. search needs)
     element-set-from-self
     add-self
-    (λ c. omega (arith, shaped (c .before .before)))
+    (λ c. omega (arith, shaped (c .before .before .before)))
     returns-2)
