@@ -13,4 +13,6 @@ pub mod Pieces
 pub mod Read
 pub mod Receipt
 pub mod Act
+pub mod History
+pub mod Demand
 pub mod Cases
