@@ -1,13 +1,13 @@
 -- Laws of the tests and lists of specs/Lists: what `every`, `allBelow` and `least` tell, and what a tabulated list holds; and case splits on tests.
 -- Assumes nothing.
 use mathlib.Core.Path.{_≡_, refl, sym, ap, _∙_}
-use mathlib.Core.Bool.{Bool, true, false, cond, _&&_, true≢false}
+use mathlib.Core.Bool.{Bool, true, false, cond, _&&_, _||_, true≢false}
 use mathlib.Core.List.{List, [], _∷_}
-use Prim.Native.Nat.{ℕ, zero, suc, _+_, _<_}
+use Prim.Native.Nat.{ℕ, zero, suc, _+_, _≤_, _<_}
 use native.Mathlib.Omega.{arith}
 use native.Mathlib.Numerals.{add-one}
-use borrow.Author.Tests.{eqb-true, eqb-false}
-use lib.Dec.{eqb}
+use borrow.Author.Tests.{ltb-true, ltb-false, eqb-true, eqb-false}
+use lib.Dec.{eqb, ltb}
 use lib.ListN.{length, getD, length-append, List·getD-append}
 use lib.Seq.{getD-append-seam}
 use Rattle.ring.specs.Lists.{andThen, every, all, allBelow, none, at, least, tabulate}
@@ -20,6 +20,9 @@ by-bool false x y = y refl
 
 pub by-eq : {P : Type 0} (a b : ℕ) → (a ≡ b → P) → ((a ≡ b → ⊥) → P) → P
 by-eq a b x y = by-bool (eqb a b) (λ e. x (eqb-true a b e)) (λ e. y (eqb-false a b e))
+
+pub by-lt : {P : Type 0} (a b : ℕ) → (a < b → P) → (b ≤ a → P) → P
+by-lt a b x y = by-bool (ltb a b) (λ e. x (ltb-true a b e)) (λ e. y (ltb-false a b e))
 
 -- a fact of both branches is a fact of the choice
 pub by-cond : {A : Type 0} (P : A → Type 0) (b : Bool) {x y : A} → (b ≡ true → P x) → (b ≡ false → P y) → P (cond b x y)
@@ -38,6 +41,14 @@ and-right false b h = absurd (true≢false (sym h))
 
 pub and-both : {a b : Bool} → a ≡ true → b ≡ true → a && b ≡ true
 and-both h e = rw h e
+
+pub and-false : (a b : Bool) → a && b ≡ false → a ≡ true → b ≡ false
+and-false true b h e = h
+and-false false b h e = absurd (true≢false (sym e))
+
+pub or-false : (a b : Bool) → a || b ≡ false → (a ≡ false) × (b ≡ false)
+or-false true b h = absurd (true≢false h)
+or-false false b h = (refl, h)
 
 -- each test of a list passes
 abbrev pub Each : List Bool → Type 0
