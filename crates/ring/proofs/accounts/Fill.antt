@@ -1,0 +1,101 @@
+-- HELD keeps the accounts: the value goes into the held slot, and it is the slot's number's own.
+-- Assumes nothing.
+use mathlib.Core.Path.{_≡_, refl, sym, ap, _∙_, subst}
+use mathlib.Core.List.{List}
+use Prim.Native.Nat.{ℕ, _≤_, _<_}
+use native.Mathlib.Omega.{arith}
+use lib.ListN.{getD, set, length-set}
+use lib.Seq.{getD-set-same, getD-set-other}
+use Rattle.ring.specs.State.{page, top}
+use Rattle.ring.specs.Write.{fill}
+use Rattle.ring.specs.History.{History}
+use Rattle.ring.specs.declared.state.WriterPhase.the-variants as phase
+use Rattle.ring.specs.declared.state.Writer.{Writer}
+use Rattle.ring.specs.declared.state.Ring.{Ring}
+use Rattle.ring.proofs.Lists.{by-eq}
+use Rattle.ring.proofs.invariant.Order.{N, S, R, topAt, usedOf, cell, phaseAt, rephase, Held, place}
+use Rattle.ring.proofs.invariant.Control.{Control}
+use Rattle.ring.proofs.invariant.Accounts.{valueOf, Holding, HeldOk, early, Accounts}
+use Rattle.ring.proofs.accounts.Laws.{work-top, cell-room}
+use Rattle.ring.proofs.accounts.Phase.{held-top, unheld, balance-top, earlies-set}
+use Rattle.ring.proofs.order.Places.{page-once, place-le}
+
+held-page : {p q i j : ℕ} → Held p i ≡ Held q j → p ≡ q
+held-page y =
+    let same = page-of y in
+    page-once same
+  where
+    page-of : {p q i j : ℕ} → Held p i ≡ Held q j → page p ≡ page q
+    page-of y = cc
+
+held-slot : {p q i j : ℕ} → Held p i ≡ Held q j → i ≡ j
+held-slot y = cc
+
+module _ (s : Ring) (h : History) (L : ℕ → ℕ) (pc pt a r0 gap : ℕ) (v : Control s L pc pt) (b : Accounts s h L pc pt a r0 gap) (deep : 1 ≤ s .depth)
+    (p j : ℕ) (ph : top s .phase ≡ Held p j) where
+  abbrev e : ℕ
+  e = topAt s
+
+  abbrev value : ℕ
+  value = top s .value
+
+  abbrev values' : List ℕ
+  values' = set (s .values) (cell (S s) p j) value
+
+  abbrev filled : Writer
+  filled = rephase (s .stack) e phase.Filled
+
+  holding : Holding (s .numbers) (s .used) (S s) (place (R s) L) pc pt (s .counts .committed) (h .readings) p j value
+  holding =
+      subst (HeldOk (s .numbers) (s .used) (S s) (place (R s) L) pc pt (s .counts .committed) (h .readings) value) ph (b .values .held e (omega arith))
+
+  p≤N : p ≤ N s
+  p≤N = subst (λ (k : ℕ). k ≤ N s) (holding .is) (place-le (N s) (R s) L (v .links .cycle) (holding .k))
+
+  j<S : j < S s
+  j<S = omega (arith, b .sizes .cap p p≤N, holding .slot)
+
+  -- in the slot itself
+  stored-here : getD values' (cell (S s) p j) 0 ≡ valueOf (h .readings) (getD (s .numbers) (cell (S s) p j) 0)
+  stored-here =
+      let room = cell-room (S s) p j (omega (arith, p≤N, b .sizes .pages)) (b .sizes .slots) (omega (arith, j<S, b .sizes .slots)) in
+      getD-set-same (s .values) (cell (S s) p j) value 0 (omega (arith, b .sizes .values-room)) ∙ holding .own
+
+  -- in any slot that no record holds now
+  stored : (q i : ℕ) → q ≤ N s → i < usedOf s q → ((k : ℕ) → k < s .depth → phaseAt (set (s .stack) e filled) k ≡ Held q i → ⊥)
+      → getD values' (cell (S s) q i) 0 ≡ valueOf (h .readings) (getD (s .numbers) (cell (S s) q i) 0)
+  stored q i hq hi free =
+      by-eq (cell (S s) q i) (cell (S s) p j)
+      (λ same.
+      ap (λ (k : ℕ). getD values' k 0) same ∙ stored-here ∙ ap (λ (k : ℕ). valueOf (h .readings) (getD (s .numbers) k 0)) (sym same))
+      (λ other.
+      getD-set-other (s .values) (cell (S s) p j) (cell (S s) q i) value 0 other
+      ∙ b .values .stored q i hq hi (unheld s h L pc pt a r0 gap b deep (v .depth) filled q i (λ y. other (moved (sym ph ∙ y))) free))
+    where
+      moved : Held p j ≡ Held q i → cell (S s) q i ≡ cell (S s) p j
+      moved y = ap (λ (k : ℕ). cell (S s) k i) (sym (held-page y)) ∙ ap (cell (S s) p) (sym (held-slot y))
+
+  pub filled-accounts : Accounts (fill (page p) j s) h L pc pt a r0 gap
+  filled-accounts =
+      let z = b .sizes in
+      record {
+        sizes = record {
+          pages = z .pages;
+          some = z .some;
+          slots = z .slots;
+          numbers-room = z .numbers-room;
+          values-room = length-set (s .values) (cell (S s) p j) value ∙ z .values-room;
+          cap = z .cap;
+        };
+        numbers = b .numbers;
+        sums = b .sums;
+        values = record { held = held-top s h L pc pt a r0 gap b deep (v .depth) filled tt; stored = stored };
+        quiet = b .quiet;
+        past = b .past;
+        ordered = b .ordered;
+        work = work-top (h .marker) (s .stack) (s .depth) e filled (h .working) (omega (arith, v .depth)) refl (λ k o. absurd o) (b .work);
+        balance =
+            omega (arith, balance-top s h L pc pt a r0 gap b deep (v .depth), earlies-set s h L pc pt a r0 gap b deep (v .depth) filled, ap early ph);
+        rightly = b .rightly;
+        four = length-set (s .stack) e filled ∙ b .four;
+      }

@@ -1,0 +1,116 @@
+-- Steps that leave the numbers alone keep the accounts: another word, another phase of the reader, another phase of a record before its reservation.
+-- Assumes nothing.
+use mathlib.Core.Path.{_≡_, refl, sym, ap, _∙_, subst}
+use mathlib.Core.List.{List}
+use Prim.Native.Nat.{ℕ, suc, _+_, _≤_, _<_}
+use native.Mathlib.Omega.{arith}
+use lib.ListN.{length, set, length-set}
+use Rattle.ring.specs.State.{withWords, withReaderPhase, top, setPhase}
+use Rattle.ring.specs.History.{History}
+use Rattle.ring.specs.declared.state.WriterPhase.{WriterPhase}
+use Rattle.ring.specs.declared.state.Writer.{Writer}
+use Rattle.ring.specs.declared.state.ReaderPhase.{ReaderPhase}
+use Rattle.ring.specs.declared.state.Ring.{Ring}
+use Rattle.ring.proofs.Lists.{by-eq}
+use Rattle.ring.proofs.invariant.Order.{S, R, topAt, usedOf, phaseAt, storedAt, rephase, Held, place}
+use Rattle.ring.proofs.invariant.Control.{Owns}
+use Rattle.ring.proofs.invariant.Accounts.{HeldOk, Quiet, early, earlies, Accounts}
+use Rattle.ring.proofs.accounts.Laws.{value-same, value-other, earlies-top, held-early, work-top}
+use Rattle.ring.proofs.order.Places.{phase-same, phase-other}
+
+module _ (s : Ring) (h : History) (L : ℕ → ℕ) (pc pt a r0 gap : ℕ) (b : Accounts s h L pc pt a r0 gap) where
+  -- no clause reads the words
+  pub words-accounts : (words : List ℕ) → Accounts (withWords words s) h L pc pt a r0 gap
+  words-accounts words =
+      record {
+        sizes = b .sizes;
+        numbers = b .numbers;
+        sums = b .sums;
+        values = b .values;
+        quiet = b .quiet;
+        past = b .past;
+        ordered = b .ordered;
+        work = b .work;
+        balance = b .balance;
+        rightly = b .rightly;
+        four = b .four;
+      }
+
+  pub reader-accounts : (ph : ReaderPhase) → Quiet ph (s .places .position) (usedOf s (R s)) → Accounts (withReaderPhase ph s) h L pc pt a r0 gap
+  reader-accounts ph q =
+      record {
+        sizes = b .sizes;
+        numbers = b .numbers;
+        sums = b .sums;
+        values = b .values;
+        quiet = q;
+        past = b .past;
+        ordered = b .ordered;
+        work = b .work;
+        balance = b .balance;
+        rightly = b .rightly;
+        four = b .four;
+      }
+
+  module _ (deep : 1 ≤ s .depth) (room : s .depth ≤ length (s .stack)) where
+    abbrev e : ℕ
+    e = topAt s
+
+    abbrev Ok : ℕ → WriterPhase → Type 0
+    Ok = HeldOk (s .numbers) (s .used) (S s) (place (R s) L) pc pt (s .counts .committed) (h .readings)
+
+    -- every record's held slot, after the top record is replaced
+    pub held-top : (w : Writer) → Ok (w .value) (w .phase) → (i : ℕ) → i < s .depth → Ok (storedAt (set (s .stack) e w) i) (phaseAt (set (s .stack) e w) i)
+    held-top w o i hi =
+        by-eq i e
+        (λ z.
+        subst (λ (k : ℕ). Ok (storedAt (set (s .stack) e w) k) (phaseAt (set (s .stack) e w) k)) (sym z)
+        (rw (value-same (s .stack) e w (omega arith), phase-same (s .stack) e w (omega arith)) o))
+        (λ n. rw (value-other (s .stack) e i w n, phase-other (s .stack) e i w n) (b .values .held i hi))
+
+    -- no record held the slot before, if none does now and the top one did not
+    pub unheld : (w : Writer) (p j : ℕ) → (top s .phase ≡ Held p j → ⊥) → ((i : ℕ) → i < s .depth → phaseAt (set (s .stack) e w) i ≡ Held p j → ⊥)
+        → (i : ℕ) → i < s .depth → phaseAt (s .stack) i ≡ Held p j → ⊥
+    unheld w p j was new i hi z =
+        by-eq i e
+        (λ y. was (ap (phaseAt (s .stack)) (sym y) ∙ z))
+        (λ n. new i hi (phase-other (s .stack) e i w n ∙ z))
+
+    never-held : {ph : WriterPhase} (p j : ℕ) → early ph ≡ 1 → ph ≡ Held p j → ⊥
+    never-held p j was z =
+        let y = ap early z in
+        omega arith
+
+    -- the count of early records, with the top record apart
+    pub balance-top : s .counts .begun ≡ s .counts .taken + s .counts .dropped + (early (top s .phase) + earlies (s .stack) e)
+    balance-top =
+        let d : s .depth ≡ suc e = omega arith in
+        b .balance ∙ ap (λ (k : ℕ). s .counts .taken + s .counts .dropped + earlies (s .stack) k) d
+
+    -- the same after the top record is replaced
+    pub earlies-set : (w : Writer) → earlies (set (s .stack) e w) (s .depth) ≡ early (w .phase) + earlies (s .stack) e
+    earlies-set w =
+        let d : s .depth ≡ suc e = omega arith in
+        ap (earlies (set (s .stack) e w)) d ∙ earlies-top (s .stack) e w (omega arith)
+
+    -- an early record becomes another early record
+    pub phase-accounts : (ph : WriterPhase) → early (top s .phase) ≡ 1 → early ph ≡ 1 → ((p : ℕ) → Owns ph p → Owns (top s .phase) p)
+        → Accounts (setPhase ph s) h L pc pt a r0 gap
+    phase-accounts ph was is own =
+        let w = rephase (s .stack) e ph in
+        record {
+          sizes = b .sizes;
+          numbers = b .numbers;
+          sums = b .sums;
+          values = record {
+            held = held-top w (held-early (s .numbers) (s .used) (S s) (place (R s) L) pc pt (s .counts .committed) (h .readings) (storedAt (s .stack) e) ph is);
+            stored = λ p j hp hj no. b .values .stored p j hp hj (unheld w p j (never-held p j was) no);
+          };
+          quiet = b .quiet;
+          past = b .past;
+          ordered = b .ordered;
+          work = work-top (h .marker) (s .stack) (s .depth) e w (h .working) (omega arith) refl own (b .work);
+          balance = omega (arith, balance-top, earlies-set w);
+          rightly = b .rightly;
+          four = length-set (s .stack) e w ∙ b .four;
+        }
