@@ -1,0 +1,2 @@
+-- The bounds are kept by each step.
+pub mod Steps

@@ -1,0 +1,2 @@
+-- The fates of the writers are kept by each step that changes them.
+pub mod Steps
