@@ -1,0 +1,45 @@
+-- Begin keeps the invariant.
+-- Assumes nothing.
+use mathlib.Core.Path.{sym, ap}
+use mathlib.Core.Logic.{_≢_}
+use Prim.Native.Nat.{ℕ, _<_}
+use native.Mathlib.Omega.{arith}
+use borrow.Author.Tests.{eqb-false}
+use lib.Dec.{eqb}
+use lib.ListN.{length}
+use Rattle.ring.specs.Limits.{mostDepth, mostCount}
+use Rattle.ring.specs.Shape.{inShape}
+use Rattle.ring.specs.Begin.{begin, beginRule}
+use Rattle.ring.specs.History.{History}
+use Rattle.ring.specs.declared.state.Ring.{Ring}
+use Rattle.ring.proofs.Lists.{by-bool}
+use Rattle.ring.proofs.invariant.Accounts.{early}
+use Rattle.ring.proofs.accounts.Begin.{begun-accounts}
+use Rattle.ring.proofs.bounds.Steps.{bounds-begin}
+use Rattle.ring.proofs.control.Begin.{begun-control}
+use Rattle.ring.proofs.fates.Steps.{fates-begun}
+use Rattle.ring.proofs.order.Places.{phase-same, phase-other}
+use Rattle.ring.proofs.runs.Invariant.{Invariant, holds, Next}
+
+module _ (v : ℕ) (s : Ring) (h : History) (g : Invariant s h) where
+  -- a Begin that is allowed
+  begun-next : s .depth ≢ mostDepth → s .counts .begun ≢ mostCount → Next v s h (begin v s)
+  begun-next shallow fresh =
+      let room : s .depth < length (s .stack) = omega (arith, g .control .depth, g .accounts .four) in
+      holds (g .L) (g .pc) (g .pt) (g .a) (g .r0) (g .gap)
+      (begun-control s _ _ _ (g .control) v room)
+      (begun-accounts s h _ _ _ _ _ _ (g .accounts) v room)
+      (fates-begun (g .fates) v (λ i hi. sym (ap early (phase-other (s .stack) (s .depth) i _ (omega arith)))) (ap early (phase-same (s .stack) (s .depth) _ room)))
+      (bounds-begin s (g .bounds) room fresh v)
+
+  pub begin-next : Next v s h (beginRule s v)
+  begin-next =
+      by-bool (inShape s)
+      (λ fits.
+      by-bool (eqb (s .depth) mostDepth)
+      (λ d. rw (fits, d) g)
+      (λ d.
+      by-bool (eqb (s .counts .begun) mostCount)
+      (λ w. rw (fits, d, w) g)
+      (λ w. rw (fits, d, w) (begun-next (eqb-false _ _ d) (eqb-false _ _ w)))))
+      (λ fits. rw fits g)

@@ -1,0 +1,48 @@
+-- The whole invariant of a ring and a history: its four parts over the same witnesses.
+-- Assumes nothing.
+use mathlib.Core.List.{List}
+use Prim.Native.Nat.{ℕ}
+use Rattle.ring.specs.Answers.{Outcome}
+use Rattle.ring.specs.History.{History, recall}
+use Rattle.ring.specs.declared.state.Ring.{Ring}
+use Rattle.ring.proofs.invariant.Control.{Control}
+use Rattle.ring.proofs.invariant.Accounts.{Accounts}
+use Rattle.ring.proofs.invariant.Fates.{FatesOf}
+use Rattle.ring.proofs.invariant.Bounds.{BoundsOf}
+
+pub record Invariant (s : Ring) (h : History) : Type 0 where
+  -- the order of the ring pages, the places of commit page and tail page
+  pub L : ℕ → ℕ
+  pub pc : ℕ
+  pub pt : ℕ
+  -- by which the numbers are told, see Accounts
+  pub a : ℕ
+  pub r0 : ℕ
+  pub gap : ℕ
+  -- the writers whose work ended by Dropped
+  pub droppers : List ℕ
+  pub control : Control s L pc pt
+  pub accounts : Accounts s h L pc pt a r0 gap
+  pub fates : FatesOf s h droppers
+  pub bounds : BoundsOf s
+
+pub holds : {s : Ring} {h : History} {droppers : List ℕ} (L : ℕ → ℕ) (pc pt a r0 gap : ℕ) → Control s L pc pt → Accounts s h L pc pt a r0 gap → FatesOf s h droppers
+    → BoundsOf s → Invariant s h
+holds {droppers = droppers} L pc pt a r0 gap v b f k =
+    record {
+      L = L;
+      pc = pc;
+      pt = pt;
+      a = a;
+      r0 = r0;
+      gap = gap;
+      droppers = droppers;
+      control = v;
+      accounts = b;
+      fates = f;
+      bounds = k;
+    }
+
+-- what an outcome comes to, on the ring s with the history h; v is the value in the action
+abbrev pub Next : ℕ → Ring → History → Outcome → Type 0
+Next v s h o = Invariant (o .ring) (recall v s (o .answer) h)
