@@ -8,7 +8,7 @@ use native.Mathlib.Omega.{arith}
 use native.Mathlib.Numerals.{add-one}
 use borrow.Author.Tests.{ltb-true, ltb-false, eqb-true, eqb-false}
 use lib.Dec.{eqb, ltb}
-use lib.ListN.{length, getD, length-append, List·getD-append}
+use lib.ListN.{length, getD, replicate, length-append, List·getD-append}
 use lib.Seq.{getD-append-seam}
 use Rattle.ring.specs.Lists.{andThen, every, all, allBelow, none, at, least, tabulate}
 
@@ -141,3 +141,10 @@ module _ (f : ℕ → ℕ) where
       by-eq i (length (tabulate k f))
       (λ q. rw q (getD-append-seam (tabulate k f) (f k) [] 0 ∙ ap f (sym l)))
       (λ n. List·getD-append (tabulate k f) (f k ∷ []) 0 i (omega arith) ∙ getD-tabulate k i (omega arith))
+
+-- ---- a list of zeros
+
+pub zeros : (k i : ℕ) → getD {A = ℕ} (replicate k 0) i 0 ≡ 0
+zeros zero i = refl
+zeros (suc k) zero = refl
+zeros (suc k) (suc i) = zeros k i

@@ -1,13 +1,14 @@
--- Control is kept by each step: a file for each.
-pub mod Top
+-- The first part of the invariant, control, is kept by each step: a file for each.
+pub mod Phase
 pub mod Begin
 pub mod Reserve
 pub mod Look
 pub mod Mark
 pub mod Promote
-pub mod Stand
 pub mod Clear
+pub mod Push
 pub mod Fill
 pub mod Pop
-pub mod Reads
+pub mod Find
+pub mod Prepare
 pub mod Swap

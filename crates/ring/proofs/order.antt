@@ -1,4 +1,7 @@
--- The order of the pages: laws of links, of places, of flags and records, and of the search for the header mark.
-pub mod Links
+-- The order of the pages: laws of links and places, of flags and records, and of the search for the header mark.
+pub mod Turn
+pub mod Swap
+pub mod Walk
 pub mod Places
+pub mod Records
 pub mod Search

@@ -44,9 +44,9 @@ pub data ExactlyOne (A B C D : Type 0) : Type 0 where
   onlyThird : ¬ A → ¬ B → C → ¬ D → ExactlyOne A B C D
   onlyFourth : ¬ A → ¬ B → ¬ C → D → ExactlyOne A B C D
 
-abbrev pub Each : {A : Type 0} → (A → Type 0) → List A → Type 0
-Each B [] = Unit {0}
-Each B (x ∷ rest) = B x × Each B rest
+abbrev pub All : {A : Type 0} → (A → Type 0) → List A → Type 0
+All B [] = Unit {0}
+All B (x ∷ rest) = B x × All B rest
 
 abbrev pub Some : {A : Type 0} → (A → Type 0) → List A → Type 0
 Some B [] = ⊥
@@ -54,7 +54,7 @@ Some B (x ∷ rest) = B x ⊎ Some B rest
 
 -- k of the numbers below n have A
 pub data Count (A : ℕ → Type 0) : ℕ → ℕ → Type 0 where
-  none : Count A 0 0
+  start : Count A 0 0
   counted : {n k : ℕ} → Count A n k → A n → Count A (suc n) (suc k)
   skipped : {n k : ℕ} → Count A n k → ¬ A n → Count A (suc n) k
 
@@ -200,7 +200,7 @@ pub record Claim (c : Receipt) (r : Run) : Type 0 where
   pub rising : (m n j k : ℕ) → EventAt (r .past .events) m j → EventAt (r .past .events) n k → j < k → m < n
   pub above : (m n : ℕ) → NotCommitted r m → HandedOut (r .past .events) n ⊎ (Overwritten (r .past .overwritings) n ⊎ Waiting r n) → n < m
   -- 5. each overwriting took the oldest ring page, all of it committed, and every ring page was full
-  pub taken : Each RightlyTaken (r .past .overwritings)
+  pub taken : All RightlyTaken (r .past .overwritings)
   -- 6. the links
   pub visits : (p : PageNo) → RingPage (r .now) p → Visits (r .now) p
   -- 7. exactly one header mark, or none and an update mark whose writer is still at work

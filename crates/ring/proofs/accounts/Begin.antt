@@ -5,11 +5,10 @@ use mathlib.Core.List.{List, [], _∷_, _++_}
 use Prim.Native.Nat.{ℕ, _+_, _<_}
 use native.Mathlib.Omega.{arith}
 use native.Mathlib.Numerals.{add-one}
-use lib.ListN.{length, set, length-set, length-append, List·getD-append}
-use lib.Seq.{getD-at}
+use lib.ListN.{length, set, length-set}
 use Rattle.ring.specs.State.{writer}
 use Rattle.ring.specs.Begin.{begin}
-use Rattle.ring.specs.History.{BegunWriter, By, History, nobody, onBegun}
+use Rattle.ring.specs.History.{BegunWriter, By, History, onBegun}
 use Rattle.ring.specs.declared.state.WriterPhase.{WriterPhase}
 use Rattle.ring.specs.declared.state.WriterPhase.the-variants as phase
 use Rattle.ring.specs.declared.state.Writer.{Writer}
@@ -19,9 +18,10 @@ use Rattle.ring.proofs.invariant.Order.{S, R, phaseAt, storedAt, place}
 use Rattle.ring.proofs.invariant.Control.{Owns}
 use Rattle.ring.proofs.invariant.Accounts.{HeldOk, earlies, workerAt, AtWork, Accounts}
 use Rattle.ring.proofs.accounts.Laws.{value-same, value-other, earlies-top}
-use Rattle.ring.proofs.order.Places.{phase-same, phase-other}
+use Rattle.ring.proofs.accounts.Working.{begun-length, begun-old, begun-new}
+use Rattle.ring.proofs.order.Records.{phase-same, phase-other}
 
-module _ (s : Ring) (h : History) (L : ℕ → ℕ) (pc pt a r0 gap : ℕ) (b : Accounts s h L pc pt a r0 gap) (v : ℕ) (room : s .depth < length (s .stack)) where
+module _ {s : Ring} {h : History} {L : ℕ → ℕ} {pc pt a r0 gap : ℕ} (b : Accounts s h L pc pt a r0 gap) (v : ℕ) (room : s .depth < length (s .stack)) where
   abbrev new : Writer
   new = writer v phase.Want
 
@@ -40,27 +40,21 @@ module _ (s : Ring) (h : History) (L : ℕ → ℕ) (pc pt a r0 gap : ℕ) (b : 
       (λ z. subst (Ok (storedAt stack' i)) (sym (ap (phaseAt stack') z ∙ phase-same (s .stack) (s .depth) new room)) tt)
       (λ n. rw (value-other (s .stack) (s .depth) i new n, phase-other (s .stack) (s .depth) i new n) (b .values .held i (omega arith)))
 
-  at-old : (i : ℕ) → i < s .depth → workerAt working' i ≡ workerAt (h .working) i
-  at-old i hi = List·getD-append (h .working) _ nobody i (omega (arith, b .work .many))
-
-  at-new : workerAt working' (s .depth) ≡ record { nth = h .begins; value = v }
-  at-new = getD-at (h .working) _ [] nobody (s .depth) (b .work .many)
-
   work' : AtWork (h .marker) stack' (s .depth + 1) working'
   work' =
       let k = b .work in
       record {
-        many = length-append (h .working) _ ∙ omega (arith, k .many);
+        many = begun-length (h .working) (k .many) _;
         value = λ i hi.
             by-eq i (s .depth)
-            (λ z. ap (λ (j : ℕ). workerAt working' j .value) z ∙ ap (λ (w : BegunWriter). w .value) at-new
+            (λ z. ap (λ (j : ℕ). workerAt working' j .value) z ∙ ap (λ (w : BegunWriter). w .value) (begun-new (h .working) (k .many) _)
             ∙ sym (ap (storedAt stack') z ∙ value-same (s .stack) (s .depth) new room))
-            (λ n. ap (λ (w : BegunWriter). w .value) (at-old i (omega arith)) ∙ k .value i (omega arith) ∙ sym (value-other (s .stack) (s .depth) i new n));
+            (λ n. ap (λ (w : BegunWriter). w .value) (begun-old (h .working) (k .many) _ i (omega arith)) ∙ k .value i (omega arith) ∙ sym (value-other (s .stack) (s .depth) i new n));
         marks = λ i p hi o.
             by-eq i (s .depth)
             (λ z. absurd (subst (λ (f : WriterPhase). Owns f p) (ap (phaseAt stack') z ∙ phase-same (s .stack) (s .depth) new room) o))
             (λ n. k .marks i p (omega arith) (subst (λ (f : WriterPhase). Owns f p) (phase-other (s .stack) (s .depth) i new n) o)
-            ∙ ap (λ (w : BegunWriter). By (w .nth)) (sym (at-old i (omega arith))));
+            ∙ ap (λ (w : BegunWriter). By (w .nth)) (sym (begun-old (h .working) (k .many) _ i (omega arith))));
       }
 
   earlies-new : earlies stack' (s .depth + 1) ≡ 1 + earlies (s .stack) (s .depth)

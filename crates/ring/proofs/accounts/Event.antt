@@ -20,7 +20,7 @@ use Rattle.ring.proofs.invariant.Control.{Control}
 use Rattle.ring.proofs.invariant.Accounts.{valueOf, Quiet, lostOf, Past, Accounts}
 use Rattle.ring.proofs.accounts.Laws.{stored-own, page-le}
 
-module _ (s : Ring) (h : History) (L : ℕ → ℕ) (pc pt a r0 gap : ℕ) (v : Control s L pc pt) (b : Accounts s h L pc pt a r0 gap) (idle : s .reader .phase ≡ reading.Idle)
+module _ {s : Ring} {h : History} {L : ℕ → ℕ} {pc pt a r0 gap : ℕ} (v : Control s L pc pt) (b : Accounts s h L pc pt a r0 gap) (idle : s .reader .phase ≡ reading.Idle)
     (inPage : s .places .position < usedOf s (R s)) (inCommit : pc ≡ 0 → s .places .position < s .places .index) where
   abbrev position : ℕ
   position = s .places .position

@@ -18,7 +18,8 @@ use Rattle.ring.proofs.invariant.Control.{Control}
 use Rattle.ring.proofs.invariant.Accounts.{valueOf, Holding, HeldOk, early, Accounts}
 use Rattle.ring.proofs.accounts.Laws.{work-top, cell-room}
 use Rattle.ring.proofs.accounts.Phase.{held-top, unheld, balance-top, earlies-set}
-use Rattle.ring.proofs.order.Places.{page-once, place-le}
+use Rattle.ring.proofs.control.Phase.{placed-le}
+use Rattle.ring.proofs.order.Places.{page-once}
 
 held-page : {p q i j : ℕ} → Held p i ≡ Held q j → p ≡ q
 held-page y =
@@ -31,7 +32,7 @@ held-page y =
 held-slot : {p q i j : ℕ} → Held p i ≡ Held q j → i ≡ j
 held-slot y = cc
 
-module _ (s : Ring) (h : History) (L : ℕ → ℕ) (pc pt a r0 gap : ℕ) (v : Control s L pc pt) (b : Accounts s h L pc pt a r0 gap) (deep : 1 ≤ s .depth)
+module _ {s : Ring} {h : History} {L : ℕ → ℕ} {pc pt a r0 gap : ℕ} (v : Control s L pc pt) (b : Accounts s h L pc pt a r0 gap) (deep : 1 ≤ s .depth)
     (p j : ℕ) (ph : top s .phase ≡ Held p j) where
   abbrev e : ℕ
   e = topAt s
@@ -50,7 +51,7 @@ module _ (s : Ring) (h : History) (L : ℕ → ℕ) (pc pt a r0 gap : ℕ) (v : 
       subst (HeldOk (s .numbers) (s .used) (S s) (place (R s) L) pc pt (s .counts .committed) (h .readings) value) ph (b .values .held e (omega arith))
 
   p≤N : p ≤ N s
-  p≤N = subst (λ (k : ℕ). k ≤ N s) (holding .is) (place-le (N s) (R s) L (v .links .cycle) (holding .k))
+  p≤N = placed-le v (holding .k) p (holding .is)
 
   j<S : j < S s
   j<S = omega (arith, b .sizes .cap p p≤N, holding .slot)
@@ -70,7 +71,7 @@ module _ (s : Ring) (h : History) (L : ℕ → ℕ) (pc pt a r0 gap : ℕ) (v : 
       ap (λ (k : ℕ). getD values' k 0) same ∙ stored-here ∙ ap (λ (k : ℕ). valueOf (h .readings) (getD (s .numbers) k 0)) (sym same))
       (λ other.
       getD-set-other (s .values) (cell (S s) p j) (cell (S s) q i) value 0 other
-      ∙ b .values .stored q i hq hi (unheld s h L pc pt a r0 gap b deep (v .depth) filled q i (λ y. other (moved (sym ph ∙ y))) free))
+      ∙ b .values .stored q i hq hi (unheld b deep (v .depth) filled q i (λ y. other (moved (sym ph ∙ y))) free))
     where
       moved : Held p j ≡ Held q i → cell (S s) q i ≡ cell (S s) p j
       moved y = ap (λ (k : ℕ). cell (S s) k i) (sym (held-page y)) ∙ ap (cell (S s) p) (sym (held-slot y))
@@ -89,13 +90,13 @@ module _ (s : Ring) (h : History) (L : ℕ → ℕ) (pc pt a r0 gap : ℕ) (v : 
         };
         numbers = b .numbers;
         sums = b .sums;
-        values = record { held = held-top s h L pc pt a r0 gap b deep (v .depth) filled tt; stored = stored };
+        values = record { held = held-top b deep (v .depth) filled tt; stored = stored };
         quiet = b .quiet;
         past = b .past;
         ordered = b .ordered;
         work = work-top (h .marker) (s .stack) (s .depth) e filled (h .working) (omega (arith, v .depth)) refl (λ k o. absurd o) (b .work);
         balance =
-            omega (arith, balance-top s h L pc pt a r0 gap b deep (v .depth), earlies-set s h L pc pt a r0 gap b deep (v .depth) filled, ap early ph);
+            omega (arith, balance-top b deep (v .depth), earlies-set b deep (v .depth) filled, ap early ph);
         rightly = b .rightly;
         four = length-set (s .stack) e filled ∙ b .four;
       }

@@ -10,19 +10,21 @@ use lib.ListN.{length, getD, set}
 use lib.Seq.{getD-set-same, getD-set-other}
 use Rattle.ring.specs.Limits.{mostPages, mostSlots, slotRoom}
 use Rattle.ring.specs.State.{page, sizeOf, noWriter}
-use Rattle.ring.specs.History.{BegunWriter, Numbered, Marker}
+use Rattle.ring.specs.History.{BegunWriter, Numbered, Marker, History}
 use Rattle.ring.specs.declared.state.PageNo.{PageNo}
 use Rattle.ring.specs.declared.state.WriterPhase.{WriterPhase}
 use Rattle.ring.specs.declared.state.WriterPhase.the-variants as phase
 use Rattle.ring.specs.declared.state.Writer.{Writer}
 use Rattle.ring.specs.declared.state.ReaderPhase.{ReaderPhase}
 use Rattle.ring.specs.declared.state.ReaderPhase.the-variants as reading
+use Rattle.ring.specs.declared.state.Ring.{Ring}
 use Rattle.ring.proofs.Lists.{by-eq}
 use Rattle.ring.proofs.state.Laws.{slotIndex-room, slotIndex-once}
-use Rattle.ring.proofs.invariant.Order.{cell, phaseAt, storedAt, Held}
-use Rattle.ring.proofs.invariant.Control.{Owns, ReaderOk}
-use Rattle.ring.proofs.invariant.Accounts.{Sums, valueOf, Holding, HeldOk, Values, Quiet, early, earlies, AtWork}
-use Rattle.ring.proofs.order.Places.{phase-same, phase-other}
+use Rattle.ring.proofs.invariant.Order.{R, C, usedOf, cell, phaseAt, storedAt, Held, place}
+use Rattle.ring.proofs.invariant.Control.{Owns, ReaderOk, Control}
+use Rattle.ring.proofs.invariant.Accounts.{Sums, valueOf, Holding, HeldOk, Values, Quiet, early, earlies, AtWork, Accounts}
+use Rattle.ring.proofs.control.Phase.{commit-le}
+use Rattle.ring.proofs.order.Records.{phase-same, phase-other}
 
 -- ---- values of records
 
@@ -174,3 +176,9 @@ module _ {S uR uT uC index position taken committed handed overwritten pc pt a r
       let q : S * (a + 1) ≤ S * (a + pc) = mul-le-mul-left S (omega arith) in
       let z = k .ringFrom h in
       omega (arith, k)
+
+pub committed-taken : {s : Ring} {h : History} {L : ℕ → ℕ} {pc pt a r0 gap : ℕ} → Control s L pc pt → Accounts s h L pc pt a r0 gap → s .counts .committed ≤ s .counts .taken
+committed-taken {s} {L = L} v b =
+    committed-le (b .sums) (v .order .le)
+    (λ e. ap (usedOf s) (sym (v .order .commitAt) ∙ ap (place (R s) L) e ∙ v .order .tailAt))
+    (b .sizes .cap (C s) (commit-le v))

@@ -7,7 +7,7 @@ use native.Mathlib.Omega.{arith}
 use lib.ListN.{length, getD}
 use Rattle.ring.specs.State.{usedAt, numberAt}
 use Rattle.ring.specs.History.{Overwriting}
-use Rattle.ring.specs.Demand.{Each}
+use Rattle.ring.specs.Demand.{All}
 use Rattle.ring.specs.declared.state.PageNo.{PageNo}
 use Rattle.ring.specs.declared.state.Ring.{Ring}
 use Rattle.ring.proofs.invariant.Accounts.{numbersOn, lostOf}
@@ -30,6 +30,6 @@ pub lostOf-snoc : (os : List Overwriting) (o : Overwriting)
 lostOf-snoc [] o = append-nil _
 lostOf-snoc (x ∷ rest) o = rw (lostOf-snoc rest o, append-assoc)
 
-pub Each-snoc : {A : Type 0} (B : A → Type 0) (xs : List A) (x : A) → Each B xs → B x → Each B (xs ++ (x ∷ []))
-Each-snoc B [] x all last = (last, tt)
-Each-snoc B (y ∷ rest) x all last = (all .0, Each-snoc B rest x (all .1) last)
+pub All-snoc : {A : Type 0} (B : A → Type 0) (xs : List A) (x : A) → All B xs → B x → All B (xs ++ (x ∷ []))
+All-snoc B [] x all last = (last, tt)
+All-snoc B (y ∷ rest) x all last = (all .0, All-snoc B rest x (all .1) last)

@@ -12,24 +12,25 @@ use lib.ListN.{length, getD, set, length-set, length-append, List·getD-append}
 use lib.Seq.{getD-set-same, getD-set-other, getD-append-add}
 use Rattle.ring.specs.State.{page, numberAt, top}
 use Rattle.ring.specs.Write.{mark}
-use Rattle.ring.specs.History.{Marker, By, History, latest, markedBy, onMark, onMarked, after}
+use Rattle.ring.specs.History.{Marker, By, History, latest, markedBy, onMark, onMarked}
 use Rattle.ring.specs.Demand.{isCommitted, RightlyTaken}
 use Rattle.ring.specs.declared.state.PageNo.{PageNo}
 use Rattle.ring.specs.declared.state.WriterPhase.{WriterPhase}
 use Rattle.ring.specs.declared.state.Writer.{Writer}
 use Rattle.ring.specs.declared.state.Ring.{Ring}
 use Rattle.ring.proofs.Lists.{by-eq, by-lt}
-use Rattle.ring.proofs.invariant.Order.{N, S, R, T, C, topAt, usedOf, cell, phaseAt, storedAt, rephase, Mark, Promote, Held, place, turn}
+use Rattle.ring.proofs.invariant.Order.{N, S, R, T, C, topAt, usedOf, cell, phaseAt, storedAt, rephase, Mark, Promote, place, turn}
 use Rattle.ring.proofs.invariant.Control.{Owns, Control}
 use Rattle.ring.proofs.invariant.Accounts.{Numbers, Sums, Holding, HeldOk, Values, early, numbersOn, lostOf, Lost, Past, workerAt, AtWork, Accounts}
 use Rattle.ring.proofs.accounts.Laws.{value-same, value-other, held-map, quiet-map}
-use Rattle.ring.proofs.accounts.Lost.{numbersOn-length, numbersOn-at, lostOf-snoc, Each-snoc}
-use Rattle.ring.proofs.accounts.Phase.{unheld, balance-top, earlies-set}
-use Rattle.ring.proofs.control.Mark.{rec, tl, nh, ptN, pc2, turned, back, newLast, away, n≤N, n≢R, n≢t, tailIs}
+use Rattle.ring.proofs.accounts.Lost.{numbersOn-length, numbersOn-at, lostOf-snoc, All-snoc}
+use Rattle.ring.proofs.accounts.Phase.{early-not-held, unheld, balance-top, earlies-set}
+use Rattle.ring.proofs.control.Mark.{marking, t-newest, n-oldest, tail-newest, tail-is, commit-off, n≤N, n≢R, away, t≢n, lower, newest-now, unowned}
 use Rattle.ring.proofs.demand.Readings.{committed-at}
-use Rattle.ring.proofs.order.Places.{page-once, ring-place, phase-same, phase-other, owner-at}
+use Rattle.ring.proofs.order.Places.{page-once, ring-place, place-turn}
+use Rattle.ring.proofs.order.Records.{phase-same, phase-other}
 
-module _ (s : Ring) (h : History) (L : ℕ → ℕ) (pc pt a r0 gap : ℕ) (v : Control s L pc pt) (b : Accounts s h L pc pt a r0 gap) (deep : 1 ≤ s .depth)
+module _ {s : Ring} {h : History} {L : ℕ → ℕ} {pc pt a r0 gap : ℕ} (v : Control s L pc pt) (b : Accounts s h L pc pt a r0 gap) (deep : 1 ≤ s .depth)
     (t n : ℕ) (ph : top s .phase ≡ Mark t n) (hw : getD (s .words) t 0 ≡ 4 * n + 1) where
   abbrev e : ℕ
   e = topAt s
@@ -55,22 +56,22 @@ module _ (s : Ring) (h : History) (L : ℕ → ℕ) (pc pt a r0 gap : ℕ) (v : 
   -- ---- page n, by what control says
 
   n-le : n ≤ N s
-  n-le = n≤N s L pc pt v deep t n ph hw
+  n-le = n≤N v deep t n ph hw
 
   n-is : n ≡ P 1
-  n-is = nh s L pc pt v deep t n ph hw
+  n-is = n-oldest v deep t n ph hw
 
   pt-is : pt ≡ N s
-  pt-is = ptN s L pc pt v deep t n ph hw
+  pt-is = tail-newest v deep t n ph hw
 
   two : 2 ≤ pc
-  two = pc2 s L pc pt v deep t n ph hw
+  two = commit-off v deep t n ph hw
 
   off : (k : ℕ) → 2 ≤ k → k ≤ N s → P k ≢ n
-  off = away s L pc pt v deep t n ph hw
+  off = away v deep t n ph hw
 
   R≢n : R s ≢ n
-  R≢n z = n≢R s L pc pt v deep t n ph hw (sym z)
+  R≢n z = n≢R v deep t n ph hw (sym z)
 
   kept : (p : ℕ) → p ≢ n → getD used' p 0 ≡ usedOf s p
   kept p ne = getD-set-other (s .used) n p 0 0 ne
@@ -174,7 +175,7 @@ module _ (s : Ring) (h : History) (L : ℕ → ℕ) (pc pt a r0 gap : ℕ) (v : 
   -- ---- the numbers kept
 
   shifted : (i : ℕ) → 1 ≤ i → P' i ≡ P (suc i)
-  shifted = turned s L pc pt v deep t n ph hw
+  shifted = place-turn (R s) L
 
   numbers-kept : Numbers (s .numbers) used' (N s) (S s) (R s) P' (suc a) r0 (s .counts .taken)
   numbers-kept =
@@ -182,7 +183,7 @@ module _ (s : Ring) (h : History) (L : ℕ → ℕ) (pc pt a r0 gap : ℕ) (v : 
         slot = λ i j lo hi hj.
             old-slot (P' i) j hj
             (λ ne o.
-            let notLast : i ≢ N s = λ z. ne (ap P' z ∙ newLast s L pc pt v deep t n ph hw) in
+            let notLast : i ≢ N s = λ z. ne (ap P' z ∙ newest-now v deep t n ph hw) in
             let q = shifted i lo in
             let was = b .numbers .slot (suc i) j (omega arith) (omega arith) (subst (λ (k : ℕ). j < usedOf s k) q o) in
             omega (arith, ap (λ (k : ℕ). getD (s .numbers) (cell (S s) k j) 0) q));
@@ -200,7 +201,7 @@ module _ (s : Ring) (h : History) (L : ℕ → ℕ) (pc pt a r0 gap : ℕ) (v : 
         k = o .k - 1;
         lo = omega (arith, o .lo);
         hi = omega (arith, o .hi);
-        is = back s L pc pt v deep t n ph hw (o .k) (omega (arith, o .lo)) ∙ o .is;
+        is = lower v deep t n ph hw (o .k) (omega (arith, o .lo)) ∙ o .is;
         slot = omega (arith, kept p ne, o .slot);
         late = o .late;
         own = o .own;
@@ -208,12 +209,6 @@ module _ (s : Ring) (h : History) (L : ℕ → ℕ) (pc pt a r0 gap : ℕ) (v : 
 
   abbrev Ok : ℕ → WriterPhase → Type 0
   Ok = HeldOk (s .numbers) used' (S s) P' (pc - 1) (N s - 1) (s .counts .committed) (h .readings)
-
-  not-held : (p j : ℕ) → top s .phase ≡ Held p j → ⊥
-  not-held p j z =
-      let q : Mark t n ≡ Held p j = sym ph ∙ z in
-      let y : _≡_ {A = ℕ} 0 1 = cc in
-      omega arith
 
   values-kept : Values (s .numbers) (s .values) used' (N s) (S s) (set (s .stack) e owner) (s .depth) P' (pc - 1) (N s - 1) (s .counts .committed) (h .readings)
   values-kept =
@@ -226,7 +221,7 @@ module _ (s : Ring) (h : History) (L : ℕ → ℕ) (pc pt a r0 gap : ℕ) (v : 
             (held-map (s .numbers) (s .numbers) (s .used) used' (S s) P P' pc (pc - 1) pt (N s - 1) (s .counts .committed) (s .counts .committed) (h .readings) (h .readings)
             holding-kept (storedAt (s .stack) i) (phaseAt (s .stack) i) (b .values .held i hi)));
         stored = λ p j hp hj free.
-            old-slot p j hj (λ ne o. b .values .stored p j hp o (unheld s h L pc pt a r0 gap b deep (v .depth) owner p j (not-held p j) free));
+            old-slot p j hj (λ ne o. b .values .stored p j hp o (unheld b deep (v .depth) owner p j (early-not-held p j (ap early ph)) free));
       }
 
   -- ---- the page taken
@@ -237,7 +232,7 @@ module _ (s : Ring) (h : History) (L : ℕ → ℕ) (pc pt a r0 gap : ℕ) (v : 
       (λ lt. v .order .full i lo (omega (arith, pt-is)))
       (λ ge.
       let last : i ≡ N s = omega arith in
-      ap (usedOf s) (ap P last ∙ sym (tl s L pc pt v deep t n ph hw)) ∙ rec s L pc pt v deep t n ph hw .spot .full)
+      ap (usedOf s) (ap P last ∙ sym (t-newest v deep t n ph hw)) ∙ marking v deep t n ph .spot .full)
 
   n-committed : (j : ℕ) → j < usedOf s n → isCommitted (h .readings) (getD (s .numbers) (cell (S s) n j) 0) ≡ true
   n-committed j hj =
@@ -254,7 +249,7 @@ module _ (s : Ring) (h : History) (L : ℕ → ℕ) (pc pt a r0 gap : ℕ) (v : 
         low = 0;
         there = omega (arith, n-full, b .sizes .some);
         oldest = λ p j rp ne hj.
-            let o = ring-place s L (v .links .cycle) (p .0) (rp .page) (λ z. rp .apart (ap page z)) in
+            let o = ring-place (v .links .cycle) (p .0) (rp .page) (λ z. rp .apart (ap page z)) in
             let notFirst : o .0 ≢ 1 = λ q. ne (ap page (sym (o .3) ∙ ap P q ∙ sym n-is)) in
             let y = b .numbers .slot (o .0) j (o .1) (o .2) (subst (λ (k : ℕ). j < usedOf s k) (sym (o .3)) hj) in
             let same = ap (λ (k : ℕ). getD (s .numbers) (cell (S s) k j) 0) (sym (o .3)) in
@@ -262,15 +257,11 @@ module _ (s : Ring) (h : History) (L : ℕ → ℕ) (pc pt a r0 gap : ℕ) (v : 
             omega (arith, n-number 0 (b .sizes .some), b .sizes .some);
         committed = n-committed;
         full = λ p rp.
-            let o = ring-place s L (v .links .cycle) (p .0) (rp .page) (λ z. rp .apart (ap page z)) in
+            let o = ring-place (v .links .cycle) (p .0) (rp .page) (λ z. rp .apart (ap page z)) in
             ap (usedOf s) (sym (o .3)) ∙ all-full (o .0) (o .1) (o .2);
       }
 
   -- ---- the writer of the mark
-
-  unowned : (i : ℕ) → i < s .depth → ¬ Owns (phaseAt (s .stack) i) t
-  unowned i hi o =
-      omega (arith, owner-at (s .words) (s .used) (N s) (S s) P pc pt (phaseAt (s .stack) i) t (v .records i hi) o .1)
 
   abbrev mine : Marker
   mine = By (latest (h .working) .nth)
@@ -301,7 +292,7 @@ module _ (s : Ring) (h : History) (L : ℕ → ℕ) (pc pt a r0 gap : ℕ) (v : 
             ap (λ (q : ℕ). marker' (page q)) (sym here) ∙ marked-here ∙ ap (λ (j : ℕ). By (workerAt (h .working) j .nth)) last)
             (λ ne.
             let was : Owns (phaseAt (s .stack) i) p = subst (λ (f : WriterPhase). Owns f p) (phase-other (s .stack) e i owner ne) o in
-            marked-other p (λ q. unowned i hi (subst (Owns (phaseAt (s .stack) i)) q was)) ∙ k .marks i p hi was);
+            marked-other p (λ q. unowned v deep t n ph hw i hi (subst (Owns (phaseAt (s .stack) i)) q was)) ∙ k .marks i p hi was);
       }
 
   -- ---- all of it
@@ -313,7 +304,7 @@ module _ (s : Ring) (h : History) (L : ℕ → ℕ) (pc pt a r0 gap : ℕ) (v : 
       let y = two in
       let w = pt-is in
       let same = kept (R s) R≢n in
-      let tail-kept = kept (T s) (λ l. n≢t s L pc pt v deep t n ph hw (sym (sym (tailIs s L pc pt v deep t n ph hw) ∙ l))) in
+      let tail-kept = kept (T s) (λ l. t≢n v deep t n ph hw (sym (tail-is v deep t n ph hw) ∙ l)) in
       let commit-kept = kept (C s) (λ l. off pc y (omega (arith, v .order .le)) (v .order .commitAt ∙ l)) in
       record {
         takenIs =
@@ -362,8 +353,8 @@ module _ (s : Ring) (h : History) (L : ℕ → ℕ) (pc pt a r0 gap : ℕ) (v : 
             (sym (lostOf-snoc (h .overwritings) _)) past-kept;
         ordered = b .ordered;
         work = work-kept;
-        balance = omega (arith, balance-top s h L pc pt a r0 gap b deep (v .depth), earlies-set s h L pc pt a r0 gap b deep (v .depth) owner, ap early ph);
-        rightly = Each-snoc RightlyTaken (h .overwritings) _ (b .rightly) rightly;
+        balance = omega (arith, balance-top b deep (v .depth), earlies-set b deep (v .depth) owner, ap early ph);
+        rightly = All-snoc RightlyTaken (h .overwritings) _ (b .rightly) rightly;
         four = length-set (s .stack) e owner ∙ b .four;
       }
 

@@ -16,9 +16,13 @@ use Rattle.ring.proofs.invariant.Order.{S, R, topAt, usedOf, phaseAt, s
 use Rattle.ring.proofs.invariant.Control.{Owns}
 use Rattle.ring.proofs.invariant.Accounts.{HeldOk, Quiet, early, earlies, Accounts}
 use Rattle.ring.proofs.accounts.Laws.{value-same, value-other, earlies-top, held-early, work-top}
-use Rattle.ring.proofs.order.Places.{phase-same, phase-other}
+use Rattle.ring.proofs.order.Records.{phase-same, phase-other}
 
-module _ (s : Ring) (h : History) (L : ℕ → ℕ) (pc pt a r0 gap : ℕ) (b : Accounts s h L pc pt a r0 gap) where
+-- a record before its reservation holds no slot
+pub early-not-held : {ph : WriterPhase} (p j : ℕ) → early ph ≡ 1 → ph ≡ Held p j → ⊥
+early-not-held p j was z = omega (arith, ap early z)
+
+module _ {s : Ring} {h : History} {L : ℕ → ℕ} {pc pt a r0 gap : ℕ} (b : Accounts s h L pc pt a r0 gap) where
   -- no clause reads the words
   pub words-accounts : (words : List ℕ) → Accounts (withWords words s) h L pc pt a r0 gap
   words-accounts words =
@@ -76,11 +80,6 @@ module _ (s : Ring) (h : History) (L : ℕ → ℕ) (pc pt a r0 gap : ℕ) (b : 
         (λ y. was (ap (phaseAt (s .stack)) (sym y) ∙ z))
         (λ n. new i hi (phase-other (s .stack) e i w n ∙ z))
 
-    never-held : {ph : WriterPhase} (p j : ℕ) → early ph ≡ 1 → ph ≡ Held p j → ⊥
-    never-held p j was z =
-        let y = ap early z in
-        omega arith
-
     -- the count of early records, with the top record apart
     pub balance-top : s .counts .begun ≡ s .counts .taken + s .counts .dropped + (early (top s .phase) + earlies (s .stack) e)
     balance-top =
@@ -104,7 +103,7 @@ module _ (s : Ring) (h : History) (L : ℕ → ℕ) (pc pt a r0 gap : ℕ) (b : 
           sums = b .sums;
           values = record {
             held = held-top w (held-early (s .numbers) (s .used) (S s) (place (R s) L) pc pt (s .counts .committed) (h .readings) (storedAt (s .stack) e) ph is);
-            stored = λ p j hp hj no. b .values .stored p j hp hj (unheld w p j (never-held p j was) no);
+            stored = λ p j hp hj no. b .values .stored p j hp hj (unheld w p j (early-not-held p j was) no);
           };
           quiet = b .quiet;
           past = b .past;

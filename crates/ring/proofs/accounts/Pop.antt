@@ -2,14 +2,13 @@
 -- Assumes nothing.
 use mathlib.Core.Path.{_≡_, sym, ap, _∙_, subst}
 use mathlib.Core.List.{List}
-use Prim.Native.Nat.{ℕ, _+_, _-_, _≤_, _<_}
+use Prim.Native.Nat.{ℕ, _+_, _≤_}
 use native.Mathlib.Omega.{arith}
 use borrow.Author.Tests.{lt-ltb}
 use lib.ListN.{length, set, length-set}
-use lib.Seq.{getD-take, length-take-le}
 use Rattle.ring.specs.State.{noWriter, top, pop}
 use Rattle.ring.specs.Write.{drop, commit}
-use Rattle.ring.specs.History.{BegunWriter, Numbered, By, History, nobody, others, onEnded, allCommitted, onCommitted}
+use Rattle.ring.specs.History.{BegunWriter, Numbered, By, History, others, onEnded, allCommitted, onCommitted}
 use Rattle.ring.specs.declared.state.WriterPhase.{WriterPhase}
 use Rattle.ring.specs.declared.state.WriterPhase.the-variants as phase
 use Rattle.ring.specs.declared.state.Writer.{Writer}
@@ -17,21 +16,14 @@ use Rattle.ring.specs.declared.state.Ring.{Ring}
 use Rattle.ring.proofs.Lists.{by-eq}
 use Rattle.ring.proofs.invariant.Order.{N, S, R, T, topAt, usedOf, phaseAt, Held, place}
 use Rattle.ring.proofs.invariant.Control.{Owns, Control}
-use Rattle.ring.proofs.invariant.Accounts.{Sums, valueOf, Ordered, Values, early, earlies, lostOf, Past, workerAt, AtWork, Accounts}
+use Rattle.ring.proofs.invariant.Accounts.{Sums, valueOf, Ordered, Values, early, earlies, lostOf, Past, AtWork, Accounts}
 use Rattle.ring.proofs.accounts.Laws.{value-other, earlies-above}
-use Rattle.ring.proofs.accounts.Phase.{balance-top}
+use Rattle.ring.proofs.accounts.Phase.{early-not-held, balance-top}
 use Rattle.ring.proofs.accounts.Readings.{length-allCommitted, allCommitted-number, allCommitted-own, allCommitted-committed}
-use Rattle.ring.proofs.order.Places.{phase-other}
+use Rattle.ring.proofs.accounts.Working.{others-length, others-at}
+use Rattle.ring.proofs.order.Records.{phase-other}
 
--- the latest writer's work has ended
-pub others-length : (working : List BegunWriter) (depth : ℕ) → length working ≡ depth → 1 ≤ depth → length (others working) ≡ depth - 1
-others-length working depth many deep =
-    length-take-le (length working - 1) working (omega arith) ∙ omega arith
-
-pub others-at : (working : List BegunWriter) (depth i : ℕ) → length working ≡ depth → i < depth - 1 → workerAt (others working) i ≡ workerAt working i
-others-at working depth i many h = getD-take (length working - 1) working i nobody (omega arith)
-
-module _ (s : Ring) (h : History) (L : ℕ → ℕ) (pc pt a r0 gap : ℕ) (b : Accounts s h L pc pt a r0 gap) (deep : 1 ≤ s .depth) (room : s .depth ≤ length (s .stack)) where
+module _ {s : Ring} {h : History} {L : ℕ → ℕ} {pc pt a r0 gap : ℕ} (b : Accounts s h L pc pt a r0 gap) (deep : 1 ≤ s .depth) (room : s .depth ≤ length (s .stack)) where
   abbrev e : ℕ
   e = topAt s
 
@@ -42,14 +34,14 @@ module _ (s : Ring) (h : History) (L : ℕ → ℕ) (pc pt a r0 gap : ℕ) (b : 
   work' =
       let k = b .work in
       record {
-        many = others-length (h .working) (s .depth) (k .many) deep;
+        many = others-length (h .working) (k .many) deep;
         value = λ i hi.
-            ap (λ (w : BegunWriter). w .value) (others-at (h .working) (s .depth) i (k .many) hi)
+            ap (λ (w : BegunWriter). w .value) (others-at (h .working) (k .many) i hi)
             ∙ k .value i (omega arith)
             ∙ sym (value-other (s .stack) e i noWriter (omega arith));
         marks = λ i p hi o.
             k .marks i p (omega arith) (subst (λ (f : WriterPhase). Owns f p) (phase-other (s .stack) e i noWriter (omega arith)) o)
-            ∙ ap (λ (w : BegunWriter). By (w .nth)) (sym (others-at (h .working) (s .depth) i (k .many) hi));
+            ∙ ap (λ (w : BegunWriter). By (w .nth)) (sym (others-at (h .working) (k .many) i hi));
       }
 
   -- the values, where the top record holds no slot
@@ -69,15 +61,10 @@ module _ (s : Ring) (h : History) (L : ℕ → ℕ) (pc pt a r0 gap : ℕ) (b : 
 
   -- n is the count of drops after the pop
   balance' : (n : ℕ) → s .counts .dropped + early (top s .phase) ≡ n → s .counts .begun ≡ s .counts .taken + n + earlies stack' e
-  balance' n q = omega (arith, balance-top s h L pc pt a r0 gap b deep room, earlies-above (s .stack) e e noWriter (omega arith))
+  balance' n q = omega (arith, balance-top b deep room, earlies-above (s .stack) e e noWriter (omega arith))
 
   filled-free : top s .phase ≡ phase.Filled → (p j : ℕ) → top s .phase ≡ Held p j → ⊥
   filled-free q p j z =
-      let y : _≡_ {A = ℕ} 0 1 = cc in
-      omega arith
-
-  want-free : top s .phase ≡ phase.Want → (p j : ℕ) → top s .phase ≡ Held p j → ⊥
-  want-free q p j z =
       let y : _≡_ {A = ℕ} 0 1 = cc in
       omega arith
 
@@ -103,7 +90,7 @@ module _ (s : Ring) (h : History) (L : ℕ → ℕ) (pc pt a r0 gap : ℕ) (b : 
         sizes = b .sizes;
         numbers = b .numbers;
         sums = b .sums;
-        values = values' (want-free q);
+        values = values' (λ p j. early-not-held p j (ap early q));
         quiet = b .quiet;
         past = b .past;
         ordered = b .ordered;

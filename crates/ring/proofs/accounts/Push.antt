@@ -10,9 +10,9 @@ use Rattle.ring.proofs.invariant.Order.{S, R, T, usedOf, phaseAt, store
 use Rattle.ring.proofs.invariant.Accounts.{Accounts}
 use Rattle.ring.proofs.accounts.Laws.{held-map}
 
-pub tail-accounts : (s : Ring) (h : History) (L : ℕ → ℕ) (pc pt a r0 gap : ℕ) → Accounts s h L pc pt a r0 gap
+pub tail-accounts : {s : Ring} {h : History} {L : ℕ → ℕ} {pc pt a r0 gap : ℕ} → Accounts s h L pc pt a r0 gap
     → (n : ℕ) → usedOf s (T s) ≡ S s → usedOf s n ≡ 0 → Accounts (withTail (page n) s) h L pc (suc pt) a r0 gap
-tail-accounts s h L pc pt a r0 gap b n full empty =
+tail-accounts {s} {h} {L} {pc} {pt} b n full empty =
     let c = b .sums in
     record {
       sizes = b .sizes;

@@ -9,10 +9,9 @@ use native.Mathlib.Omega.{arith}
 use borrow.Author.Tests.{le-ltb}
 use lib.ListN.{length, getD, set, length-set, length-append}
 use lib.Seq.{getD-set-same, getD-set-other}
-use Rattle.ring.specs.Lists.{first}
 use Rattle.ring.specs.State.{top}
 use Rattle.ring.specs.Write.{reserve}
-use Rattle.ring.specs.History.{Numbered, History, numbered, latest, onReserved}
+use Rattle.ring.specs.History.{BegunWriter, Numbered, History, numbered, latest, onReserved}
 use Rattle.ring.specs.declared.state.WriterPhase.{WriterPhase}
 use Rattle.ring.specs.declared.state.WriterPhase.the-variants as phase
 use Rattle.ring.specs.declared.state.Writer.{Writer}
@@ -20,13 +19,16 @@ use Rattle.ring.specs.declared.state.Ring.{Ring}
 use Rattle.ring.proofs.Lists.{by-eq, by-lt}
 use Rattle.ring.proofs.invariant.Order.{N, S, R, T, C, topAt, usedOf, cell, phaseAt, storedAt, rephase, Held, place}
 use Rattle.ring.proofs.invariant.Control.{Control}
-use Rattle.ring.proofs.invariant.Accounts.{Numbers, Sums, valueOf, Ordered, Holding, HeldOk, Values, early, lostOf, Past, workerAt, Accounts}
-use Rattle.ring.proofs.accounts.Laws.{value-same, value-other, held-map, work-top, quiet-map, cell-once, cell-room, committed-le, read-le}
-use Rattle.ring.proofs.accounts.Phase.{unheld, balance-top, earlies-set}
+use Rattle.ring.proofs.invariant.Accounts.{Numbers, Sums, valueOf, Ordered, Holding, HeldOk, Values, early, lostOf, Past, Accounts}
+use Rattle.ring.proofs.accounts.Laws.{value-same, value-other, held-map, work-top, quiet-map, cell-once, cell-room, read-le, committed-taken}
+use Rattle.ring.proofs.accounts.Phase.{early-not-held, unheld, balance-top, earlies-set}
 use Rattle.ring.proofs.accounts.Readings.{nthReading-before, nthReading-last}
-use Rattle.ring.proofs.order.Places.{place-once, place-le, phase-same, phase-other}
+use Rattle.ring.proofs.accounts.Working.{latest-at}
+use Rattle.ring.proofs.control.Phase.{placed-le, tail-le}
+use Rattle.ring.proofs.order.Places.{place-once, place-le}
+use Rattle.ring.proofs.order.Records.{phase-same, phase-other}
 
-module _ (s : Ring) (h : History) (L : ℕ → ℕ) (pc pt a r0 gap : ℕ) (v : Control s L pc pt) (b : Accounts s h L pc pt a r0 gap) (deep : 1 ≤ s .depth)
+module _ {s : Ring} {h : History} {L : ℕ → ℕ} {pc pt a r0 gap : ℕ} (v : Control s L pc pt) (b : Accounts s h L pc pt a r0 gap) (deep : 1 ≤ s .depth)
     (want : top s .phase ≡ phase.Want) (room : usedOf s (T s) < S s) where
   abbrev e : ℕ
   e = topAt s
@@ -62,11 +64,8 @@ module _ (s : Ring) (h : History) (L : ℕ → ℕ) (pc pt a r0 gap : ℕ) (v : 
 
   -- ---- used
 
-  T≤N : T s ≤ N s
-  T≤N = subst (λ (k : ℕ). k ≤ N s) (v .order .tailAt) (place-le (N s) (R s) L (v .links .cycle) pt)
-
   used-same : getD used' (T s) 0 ≡ u + 1
-  used-same = getD-set-same (s .used) (T s) (u + 1) 0 (omega (arith, T≤N, v .order .room))
+  used-same = getD-set-same (s .used) (T s) (u + 1) 0 (omega (arith, tail-le v, v .order .room))
 
   used-other : (p : ℕ) → p ≢ T s → getD used' p 0 ≡ usedOf s p
   used-other p n = getD-set-other (s .used) (T s) p (u + 1) 0 n
@@ -91,7 +90,7 @@ module _ (s : Ring) (h : History) (L : ℕ → ℕ) (pc pt a r0 gap : ℕ) (v : 
   number-new : getD numbers' at 0 ≡ s .counts .taken
   number-new =
       let z = b .sizes in
-      let inside = cell-room (S s) (T s) u (omega (arith, T≤N, z .pages)) (z .slots) (omega (arith, z .slots)) in
+      let inside = cell-room (S s) (T s) u (omega (arith, tail-le v, z .pages)) (z .slots) (omega (arith, z .slots)) in
       getD-set-same (s .numbers) at (s .counts .taken) 0 (omega (arith, z .numbers-room))
 
   number-at : (p j : ℕ) → p ≡ T s → j ≡ u → getD numbers' (cell (S s) p j) 0 ≡ s .counts .taken
@@ -105,7 +104,7 @@ module _ (s : Ring) (h : History) (L : ℕ → ℕ) (pc pt a r0 gap : ℕ) (v : 
       omega (arith, ap (usedOf s) (y .0), y .1))
 
   at-tail : (i : ℕ) → i ≤ N s → P i ≡ T s → i ≡ pt
-  at-tail i hi z = place-once (N s) (R s) L (v .links .cycle) i pt hi (v .order .top) (z ∙ sym (v .order .tailAt))
+  at-tail i hi z = place-once (v .links .cycle) i pt hi (v .order .top) (z ∙ sym (v .order .tailAt))
 
   numbers-kept : Numbers numbers' used' (N s) (S s) (R s) P a r0 (s .counts .taken + 1)
   numbers-kept =
@@ -113,7 +112,7 @@ module _ (s : Ring) (h : History) (L : ℕ → ℕ) (pc pt a r0 gap : ℕ) (v : 
         slot = λ i j lo hi hj.
             split (P i) j hj
             (λ z y. omega (arith, number-at (P i) j z y, b .sums .takenIs, ap (λ (k : ℕ). S s * (a + k)) (at-tail i hi z)))
-            (λ o. omega (arith, number-old (P i) j (place-le (N s) (R s) L (v .links .cycle) i) o, b .numbers .slot i j lo hi o));
+            (λ o. omega (arith, number-old (P i) j (place-le (v .links .cycle) i) o, b .numbers .slot i j lo hi o));
         reader = λ j hj.
             split (R s) j hj
             (λ z y.
@@ -149,12 +148,6 @@ module _ (s : Ring) (h : History) (L : ℕ → ℕ) (pc pt a r0 gap : ℕ) (v : 
         total = c .total;
       }
 
-  uC≤S : usedOf s (C s) ≤ S s
-  uC≤S = b .sizes .cap (C s) (subst (λ (k : ℕ). k ≤ N s) (v .order .commitAt) (place-le (N s) (R s) L (v .links .cycle) pc))
-
-  committed-taken : s .counts .committed ≤ s .counts .taken
-  committed-taken = committed-le (b .sums) (v .order .le) (λ z. ap (usedOf s) (sym (v .order .commitAt) ∙ ap P z ∙ v .order .tailAt)) uC≤S
-
   -- ---- readings
 
   size : length (h .readings) ≡ s .counts .taken
@@ -166,7 +159,7 @@ module _ (s : Ring) (h : History) (L : ℕ → ℕ) (pc pt a r0 gap : ℕ) (v : 
   latest-value : latest (h .working) .value ≡ top s .value
   latest-value =
       let k = b .work in
-      ap (λ (i : ℕ). workerAt (h .working) i .value) (omega (arith, k .many)) ∙ k .value e (omega arith)
+      ap (λ (w : BegunWriter). w .value) (latest-at (h .working) (k .many)) ∙ k .value e (omega arith)
 
   value-new : valueOf readings' (s .counts .taken) ≡ top s .value
   value-new = ap (λ (x : Numbered). x .own .value) (nthReading-last (h .readings) new (s .counts .taken) size) ∙ latest-value
@@ -185,7 +178,7 @@ module _ (s : Ring) (h : History) (L : ℕ → ℕ) (pc pt a r0 gap : ℕ) (v : 
             (λ lt. ap (λ (x : Numbered). x .committed) (nthReading-before (h .readings) new i (omega (arith, size))) ∙ o .committed-below i lt)
             (λ ge.
             ap (λ (x : Numbered). x .committed) (nthReading-last (h .readings) new i (omega (arith, size)))
-            ∙ sym (le-ltb i (s .counts .committed) (omega (arith, committed-taken))));
+            ∙ sym (le-ltb i (s .counts .committed) (omega (arith, committed-taken v b))));
       }
 
   -- ---- values
@@ -198,14 +191,14 @@ module _ (s : Ring) (h : History) (L : ℕ → ℕ) (pc pt a r0 gap : ℕ) (v : 
         hi = omega arith;
         is = v .order .tailAt;
         slot = omega (arith, used-same);
-        late = omega (arith, number-new, committed-taken);
+        late = omega (arith, number-new, committed-taken v b);
         own = sym (ap (valueOf readings') number-new ∙ value-new);
       }
 
   holding-kept : (p j w : ℕ) → Holding (s .numbers) (s .used) (S s) P pc pt (s .counts .committed) (h .readings) p j w
       → Holding numbers' used' (S s) P pc pt (s .counts .committed) readings' p j w
   holding-kept p j w o =
-      let p≤N : p ≤ N s = subst (λ (k : ℕ). k ≤ N s) (o .is) (place-le (N s) (R s) L (v .links .cycle) (o .k)) in
+      let p≤N : p ≤ N s = placed-le v (o .k) p (o .is) in
       let n = number-old p j p≤N (o .slot) in
       record {
         k = o .k;
@@ -236,14 +229,9 @@ module _ (s : Ring) (h : History) (L : ℕ → ℕ) (pc pt a r0 gap : ℕ) (v : 
             split p j hj
             (λ z y. absurd (free e (omega arith) (phase-same (s .stack) e held e<len ∙ ap (λ (k : ℕ). Held k u) (sym z) ∙ ap (Held p) (sym y))))
             (λ o.
-            b .values .stored p j hp o (unheld s h L pc pt a r0 gap b deep (v .depth) held p j (not-held p j) free)
+            b .values .stored p j hp o (unheld b deep (v .depth) held p j (early-not-held p j (ap early want)) free)
             ∙ sym (ap (valueOf readings') (number-old p j hp o) ∙ value-kept _ (b .numbers .below p j hp o)));
       }
-    where
-      not-held : (p j : ℕ) → top s .phase ≡ Held p j → ⊥
-      not-held p j z =
-          let y : _≡_ {A = ℕ} 0 1 = cc in
-          omega arith
 
   -- ---- history
 
@@ -256,7 +244,7 @@ module _ (s : Ring) (h : History) (L : ℕ → ℕ) (pc pt a r0 gap : ℕ) (v : 
         overwrittenIs = k .overwrittenIs;
         given = k .given;
         rising = k .rising;
-        own = λ i hi. k .own i hi ∙ sym (value-kept _ (omega (arith, k .given i hi, read-le c, committed-taken)));
+        own = λ i hi. k .own i hi ∙ sym (value-kept _ (omega (arith, k .given i hi, read-le c, committed-taken v b)));
         lostLow = λ i hi. omega (arith, k .lostLow i hi, grows (R s));
         lostApart = λ i hi.
             by-eq pc 0
@@ -301,7 +289,7 @@ module _ (s : Ring) (h : History) (L : ℕ → ℕ) (pc pt a r0 gap : ℕ) (v : 
         ordered = ordered-kept;
         work = work-top (h .marker) (s .stack) (s .depth) e held (h .working) e<len refl (λ i w. absurd w) (b .work);
         balance =
-            omega (arith, balance-top s h L pc pt a r0 gap b deep (v .depth), earlies-set s h L pc pt a r0 gap b deep (v .depth) held, ap early want);
+            omega (arith, balance-top b deep (v .depth), earlies-set b deep (v .depth) held, ap early want);
         rightly = b .rightly;
         four = length-set (s .stack) e held ∙ b .four;
       }

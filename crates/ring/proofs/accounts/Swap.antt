@@ -17,10 +17,10 @@ use Rattle.ring.proofs.invariant.Order.{N, S, R, T, C, usedOf, cell, ph
 use Rattle.ring.proofs.invariant.Control.{Control}
 use Rattle.ring.proofs.invariant.Accounts.{Numbers, Sums, Holding, Quiet, lostOf, Past, Accounts}
 use Rattle.ring.proofs.accounts.Laws.{held-map}
-use Rattle.ring.proofs.control.Swap.{pc1, hh, down, lastR, offR}
-use Rattle.ring.proofs.order.Places.{place-swap}
+use Rattle.ring.proofs.control.Swap.{commit-ahead, h-oldest, lower-swap, newest-swap}
+use Rattle.ring.proofs.order.Places.{place-off, place-swap}
 
-module _ (s : Ring) (h : History) (L : ℕ → ℕ) (pc pt a r0 gap : ℕ) (v : Control s L pc pt) (b : Accounts s h L pc pt a r0 gap)
+module _ {s : Ring} {h : History} {L : ℕ → ℕ} {pc pt a r0 gap : ℕ} (v : Control s L pc pt) (b : Accounts s h L pc pt a r0 gap)
     (p h0 : ℕ) (rd : s .reader .phase ≡ Ready p h0) (hw : getD (s .words) p 0 ≡ 4 * h0 + 1) where
   abbrev P : ℕ → ℕ
   P = place (R s) L
@@ -35,10 +35,10 @@ module _ (s : Ring) (h : History) (L : ℕ → ℕ) (pc pt a r0 gap : ℕ) (v : 
   uR = usedOf s (R s)
 
   one : 1 ≤ pc
-  one = pc1 s L pc pt v p h0 rd hw
+  one = commit-ahead v p h0 rd hw
 
   off : (i : ℕ) → 1 ≤ i → P i ≢ R s
-  off = offR s L pc pt v p h0 rd hw
+  off = place-off (v .links .cycle)
 
   all-read : s .places .position ≡ uR
   all-read = subst (λ (q : ReaderPhase). Quiet q (s .places .position) uR) rd (b .quiet)
@@ -60,7 +60,7 @@ module _ (s : Ring) (h : History) (L : ℕ → ℕ) (pc pt a r0 gap : ℕ) (v : 
       (λ z. go z (subst (λ (k : ℕ). j < k) (kept q z) hj))
 
   shifted : (i : ℕ) → i < N s → P' i ≡ P (suc i)
-  shifted i hi = place-swap (N s) (R s) L (v .links .cycle) i hi
+  shifted i hi = place-swap (v .links .cycle) i hi
 
   numbers-kept : Numbers (s .numbers) used' (N s) (S s) (L 0) P' (suc a) (S s * a) (s .counts .taken)
   numbers-kept =
@@ -68,7 +68,7 @@ module _ (s : Ring) (h : History) (L : ℕ → ℕ) (pc pt a r0 gap : ℕ) (v : 
         slot = λ i j lo hi hj.
             old-slot (P' i) j hj
             (λ ne o.
-            let notLast : i ≢ N s = λ z. ne (ap P' z ∙ lastR s L pc pt v p h0 rd hw) in
+            let notLast : i ≢ N s = λ z. ne (ap P' z ∙ newest-swap v p h0 rd hw) in
             let q = shifted i (omega arith) in
             let was = b .numbers .slot (suc i) j (omega arith) (omega arith) (subst (λ (k : ℕ). j < usedOf s k) q o) in
             omega (arith, ap (λ (k : ℕ). getD (s .numbers) (cell (S s) k j) 0) q));
@@ -86,7 +86,7 @@ module _ (s : Ring) (h : History) (L : ℕ → ℕ) (pc pt a r0 gap : ℕ) (v : 
         k = o .k - 1;
         lo = omega (arith, o .lo);
         hi = omega (arith, o .hi);
-        is = down s L pc pt v p h0 rd hw (o .k) (omega (arith, o .lo)) (omega (arith, o .hi, v .order .top)) ∙ o .is;
+        is = lower-swap v p h0 rd hw (o .k) (omega (arith, o .lo)) (omega (arith, o .hi, v .order .top)) ∙ o .is;
         slot = omega (arith, kept q ne, o .slot);
         late = o .late;
         own = o .own;
@@ -173,4 +173,4 @@ module _ (s : Ring) (h : History) (L : ℕ → ℕ) (pc pt a r0 gap : ℕ) (v : 
 
   pub swapped-accounts : Accounts (swap (page p) (page h0) s) h (swapped L (R s)) (pc - 1) (pt - 1) (suc a) (S s * a) 0
   swapped-accounts =
-      subst (λ (q : ℕ). Accounts (swap (page p) (page q) s) h (swapped L (R s)) (pc - 1) (pt - 1) (suc a) (S s * a) 0) (sym (hh s L pc pt v p h0 rd hw)) core
+      subst (λ (q : ℕ). Accounts (swap (page p) (page q) s) h (swapped L (R s)) (pc - 1) (pt - 1) (suc a) (S s * a) 0) (sym (h-oldest v p h0 rd hw)) core

@@ -1,14 +1,14 @@
 -- The fourth part of the invariant, bounds, holds of a fresh ring, and each step keeps it: a law for each change of what the bounds read, which is words, stack,
 -- numbers, begun and the reader page. What else a rule stores leaves them as they are.
 -- Assumes nothing.
-use mathlib.Core.Path.{_≡_, refl, ap, subst}
+use mathlib.Core.Path.{_≡_, ap, subst}
 use mathlib.Core.Logic.{_≢_}
 use mathlib.Core.Bool.{true}
 use mathlib.Core.List.{List}
-use Prim.Native.Nat.{ℕ, zero, suc, _+_, _*_, _≤_, _<_}
+use Prim.Native.Nat.{ℕ, suc, _+_, _*_, _≤_, _<_}
 use native.Mathlib.Omega.{arith}
 use borrow.Author.Tests.{leb-true}
-use lib.ListN.{length, getD, set, replicate}
+use lib.ListN.{length, getD, set}
 use lib.Seq.{getD-set-same, getD-set-other, set-out}
 use Rattle.ring.specs.Limits.{mostPages, pageRoom, slotRoom, mostCount, stop}
 use Rattle.ring.specs.State.{page, writer, noWriter, withWords, slotIndex, setPhase, pop}
@@ -23,12 +23,12 @@ use Rattle.ring.specs.declared.state.WriterPhase.{WriterPhase}
 use Rattle.ring.specs.declared.state.WriterPhase.the-variants as phase
 use Rattle.ring.specs.declared.state.Writer.{Writer}
 use Rattle.ring.specs.declared.state.Ring.{Ring}
-use Rattle.ring.proofs.Lists.{by-eq, by-lt, each, getD-tabulate}
+use Rattle.ring.proofs.Lists.{by-eq, by-lt, each, getD-tabulate, zeros}
 use Rattle.ring.proofs.setup.Laws.{freshNext-pages, freshFlag-most}
 use Rattle.ring.proofs.invariant.Order.{N, R, topAt, nextOf, rephase, Found, Ready, Links}
 use Rattle.ring.proofs.invariant.Control.{ReaderOk, Control}
 use Rattle.ring.proofs.invariant.Bounds.{AimFits, Bounds, BoundsOf}
-use Rattle.ring.proofs.order.Places.{reflag, phase-other, records-at, records-set}
+use Rattle.ring.proofs.order.Records.{reflag, phase-other, records-set}
 
 -- ---- words and numbers
 
@@ -40,8 +40,8 @@ next-same words x n f p hf q =
     (λ ge. ap (λ (l : List ℕ). nextOf l p) (set-out words x (4 * n + f) ge))
 
 -- the page in a ring page's word
-pub ring-next : (words : List ℕ) (N R : ℕ) (L : ℕ → ℕ) → Links words N R L → (p : ℕ) → p ≤ N → p ≢ R → nextOf words p ≤ N
-ring-next words N R L k p hp hr =
+pub ring-next : {words : List ℕ} {N R : ℕ} {L : ℕ → ℕ} → Links words N R L → (p : ℕ) → p ≤ N → p ≢ R → nextOf words p ≤ N
+ring-next k p hp hr =
     let o = k .cycle .onto p hp hr in
     rw (← o .2, k .linked .step (o .0)) (k .cycle .bound (suc (o .0)))
 
@@ -76,7 +76,7 @@ module _ (s : Ring) (k : BoundsOf s) where
         begunFits = k .begunFits;
         numbersFit = k .numbersFit;
         readerFits = k .readerFits;
-        aims = records-set (AimFits (N s)) (AimFits (N s)) (s .stack) (s .depth) (topAt s) (rephase (s .stack) (topAt s) ph) (omega arith) (k .aims) (λ q o. o) f;
+        aims = records-set (AimFits (N s)) (s .stack) (s .depth) (topAt s) (rephase (s .stack) (topAt s) ph) (omega arith) (λ i hi n. k .aims i hi) f;
       }
 
   pub bounds-reserve : 1 ≤ s .depth → s .depth ≤ length (s .stack) → (t : PageNo) (slot : ℕ) → BoundsOf (reserve t slot s)
@@ -113,18 +113,18 @@ module _ (s : Ring) (k : BoundsOf s) where
         begunFits = omega (arith, k .begunFits);
         numbersFit = k .numbersFit;
         readerFits = k .readerFits;
-        aims = records-at (AimFits (N s)) (s .stack) (s .depth + 1) (s .depth) (writer v phase.Want) room (λ i hi n. k .aims i (omega arith)) tt;
+        aims = records-set (AimFits (N s)) (s .stack) (s .depth + 1) (s .depth) (writer v phase.Want) room (λ i hi n. k .aims i (omega arith)) tt;
       }
 
 -- ---- the reader
 
-module _ (s : Ring) (L : ℕ → ℕ) (pc pt : ℕ) (v : Control s L pc pt) (k : BoundsOf s) (p h : ℕ) where
+module _ {s : Ring} {L : ℕ → ℕ} {pc pt : ℕ} (v : Control s L pc pt) (k : BoundsOf s) (p h : ℕ) where
   pub bounds-prepare : s .reader .phase ≡ Found p h → BoundsOf (prepare (page p) (page h) s)
   bounds-prepare q =
       let o = subst (ReaderOk (s .words) (N s) (R s) pc) q (v .reader) in
       let word = 4 * nextOf (s .words) h + 1 in
       let new = getD-set-same (s .words) (R s) word 0 (omega (arith, v .links)) in
-      reworded k (omega (arith, ring-next (s .words) (N s) (R s) L (v .links) h (o .3) (o .4)))
+      reworded k (omega (arith, ring-next (v .links) h (o .3) (o .4)))
 
   pub bounds-swap : s .reader .phase ≡ Ready p h → BoundsOf (swap (page p) (page h) s)
   bounds-swap q =
@@ -134,14 +134,9 @@ module _ (s : Ring) (L : ℕ → ℕ) (pc pt : ℕ) (v : Control s L pc pt) (k :
       (λ e.
       let new = getD-set-same (s .words) p (4 * R s + 0) 0 (omega (arith, v .links)) in
       rw (e, new) (omega (arith, v .links .cycle)))
-      (λ n. rw (getD-set-other (s .words) p h (4 * R s + 0) 0 n) (ring-next (s .words) (N s) (R s) L (v .links) h (o .3) (o .4))))
+      (λ n. rw (getD-set-other (s .words) p h (4 * R s + 0) 0 n) (ring-next (v .links) h (o .3) (o .4))))
 
 -- ---- a fresh ring
-
-zeros : (m i : ℕ) → getD {A = ℕ} (replicate m 0) i 0 ≡ 0
-zeros zero i = refl
-zeros (suc m) zero = refl
-zeros (suc m) (suc i) = zeros m i
 
 -- the reader page's word
 fresh-next : (n : ℕ) → n ≤ mostPages → nextOf (freshWords n) n ≤ n

@@ -2,93 +2,111 @@
 -- Assumes nothing.
 use mathlib.Core.Path.{_≡_, refl, sym, ap, _∙_, subst}
 use mathlib.Core.Logic.{_≢_, inr}
+use mathlib.Core.Bool.{true}
 use mathlib.Core.List.{List}
-use Prim.Native.Nat.{ℕ, _+_, _*_, _%_, _≤_, _<_}
+use Prim.Native.Nat.{ℕ, _+_, _-_, _*_, _≤_, _<_}
 use native.Mathlib.Omega.{arith}
-use lib.ListN.{length, set, length-set}
+use lib.ListN.{set, length-set}
 use Rattle.ring.specs.State.{page, top}
 use Rattle.ring.specs.Write.{clear}
 use Rattle.ring.specs.declared.state.WriterPhase.{WriterPhase}
+use Rattle.ring.specs.declared.state.Writer.{Writer}
 use Rattle.ring.specs.declared.state.Ring.{Ring}
 use Rattle.ring.proofs.Lists.{by-eq}
-use Rattle.ring.proofs.invariant.Order.{N, S, R, topAt, flagOf, phaseAt, rephase, Clear, Push, Cycle, place}
-use Rattle.ring.proofs.invariant.Control.{Moving, RecordOk, Owns, Headed, headed, Control}
-use Rattle.ring.proofs.control.Top.{top-ok, headed-by}
-use Rattle.ring.proofs.order.Places.{place-once, place-le, Reflag, reflag, reflag-links, record-own, records-at, owner-at, owners-set, read-map}
+use Rattle.ring.proofs.invariant.Order.{N, S, R, topAt, phaseAt, rephase, Promote, Clear, Push, place}
+use Rattle.ring.proofs.invariant.Control.{Moving, RecordOk, Owns, Owners, Above, Headed, headed, headless, Joined, HeadedIn, FlagsIn, Control}
+use Rattle.ring.proofs.control.Phase.{owner-in, placed-le, top-below, top-ok}
+use Rattle.ring.proofs.order.Places.{place-off}
+use Rattle.ring.proofs.order.Records.{Reflag, reflag, flag-other, flag-apart, reflag-links, reflag-small, record-map, records-set, owners-set, reader-map}
 
-module _ (s : Ring) (L : ℕ → ℕ) (pc pt : ℕ) (v : Control s L pc pt) (deep : 1 ≤ s .depth) where
-  abbrev e : ℕ
-  e = topAt s
-
+module _ {s : Ring} {L : ℕ → ℕ} {pc pt : ℕ} (v : Control s L pc pt) (deep : 1 ≤ s .depth) (t n : ℕ) (ph : top s .phase ≡ Clear t n) where
   abbrev P : ℕ → ℕ
   P = place (R s) L
 
-  abbrev c : Cycle (N s) (R s) L
-  c = v .links .cycle
+  abbrev words' : List ℕ
+  words' = set (s .words) t (4 * n + 0)
 
-  abbrev Ok : WriterPhase → Type 0
-  Ok = RecordOk (s .words) (s .used) (N s) (S s) P pc pt
+  abbrev w : Writer
+  w = rephase (s .stack) (topAt s) (Push t n)
 
-  len : e < length (s .stack)
-  len = omega (arith, v .depth)
+  moving : Moving (s .words) (s .used) (N s) (S s) P pc pt t n
+  moving = top-ok v deep (Clear t n) ph .0
 
-  module _ (t n : ℕ) (q : top s .phase ≡ Clear t n) where
-    ok : Ok (Clear t n)
-    ok = top-ok s L pc pt v deep (Clear t n) q
+  t≤N : t ≤ N s
+  t≤N = placed-le v (moving .spot .k) t (moving .spot .is)
 
-    abbrev words' : List ℕ
-    words' = set (s .words) t (4 * n + 0)
+  -- t is the reader page only while the commit page is
+  t≢R : 1 ≤ pc → t ≢ R s
+  t≢R h q =
+      place-off (v .links .cycle) (moving .spot .k) (omega (arith, moving .spot .lo)) (moving .spot .is ∙ q)
 
-    t≤N : t ≤ N s
-    t≤N = rw (← (ok .0 .spot .is)) (place-le (N s) (R s) L c (ok .0 .spot .k))
+  reflagged : Reflag (s .words) words' t 0
+  reflagged = reflag (s .words) t n 0 (omega (arith, v .links .linked .room, t≤N)) (omega arith) (moving .next)
 
-    rf : Reflag (s .words) words' t 0
-    rf = reflag (s .words) t n 0 (omega (arith, v .links .linked .room, t≤N)) (omega arith) (ok .0 .next)
+  -- this record owns t's mark, so it has passed its PROMOTE and there is a header mark
+  head : HeadedIn s L
+  head = go (v .flags)
+    where
+      never : {a b : ℕ} → Promote a b true ≡ Clear t n → ⊥
+      never q =
+          let z : _≡_ {A = ℕ} 0 1 = cc in
+          omega arith
 
-    same : (p : ℕ) → p ≢ t → flagOf words' p ≡ flagOf (s .words) p
-    same p ne = ap (λ (z : ℕ). z % 4) (rf .other p ne)
+      go : FlagsIn s L pc → HeadedIn s L
+      go (headed h) = h
+      go (headless o) =
+          by-eq (o .a) (topAt s)
+          (λ q. absurd (never (sym (o .owner) ∙ ap (phaseAt (s .stack)) q ∙ ph)))
+          (λ q. absurd (subst (Above (P (N s - 1)) (P (N s))) ph (o .above (topAt s) (omega (arith, o .below)) (omega arith))))
 
-    hd : Headed (s .words) (N s) P
-    hd = headed-by s L pc pt v deep (Clear t n) q (λ r. let z : _≡_ {A = ℕ} 0 1 = cc in let y : ⊥ = omega arith in y) (λ a. a)
+  moving-kept : (x y : ℕ) → Moving (s .words) (s .used) (N s) (S s) P pc pt x y → Moving words' (s .used) (N s) (S s) P pc pt x y
+  moving-kept x y m = record { spot = m .spot; next = reflagged .next x ∙ m .next; notLast = m .notLast }
 
-    mv : (x y : ℕ) → Moving (s .words) (s .used) (N s) (S s) P pc pt x y → Moving words' (s .used) (N s) (S s) P pc pt x y
-    mv x y m = record { spot = m .spot; next = rf .next x ∙ m .next; notLast = m .notLast }
+  -- no other record owns t's mark
+  alone : (i p : ℕ) → i < s .depth → i ≢ topAt s → Owns (phaseAt (s .stack) i) p → p ≢ t
+  alone i p hi ne o q =
+      ne (v .owners .one i (topAt s) t hi (omega arith) (subst (Owns (phaseAt (s .stack) i)) q o) (subst (λ (x : WriterPhase). Owns x t) (sym ph) refl))
 
-    away : 1 ≤ pc → t ≢ R s
-    away h r = let z = place-once (N s) (R s) L c (ok .0 .spot .k) 0 (omega (arith, ok .0 .spot, v .order)) (omega arith) (ok .0 .spot .is ∙ r) in
-        let y : ⊥ = omega (arith, ok .0 .spot) in y
+  record-kept : (i : ℕ) → i < s .depth → i ≢ topAt s → RecordOk words' (s .used) (N s) (S s) P pc pt (phaseAt (s .stack) i)
+  record-kept i hi ne =
+      record-map moving-kept (λ x m. m) (phaseAt (s .stack) i)
+      (λ p o. flag-other reflagged p (alone i p hi ne o) ∙ owner-in v i p hi o .2)
+      (v .records i hi)
 
-    -- no other record owns t
-    lone : (i p : ℕ) → i < s .depth → i ≢ e → Owns (phaseAt (s .stack) i) p → p ≢ t
-    lone i p hi ne o r = ne (v .owners .one i e t hi (omega arith) (subst (Owns (phaseAt (s .stack) i)) r o) (rw q refl))
+  joined-kept : pc ≡ 0 → Joined words' P
+  joined-kept z =
+      record {
+        next = reflagged .next (R s) ∙ v .joined z .next;
+        flag = λ f. v .joined z .flag (sym (flag-other reflagged (R s) (flag-apart reflagged (R s) 1 (λ q. omega arith) f)) ∙ f);
+      }
 
-    keeps : (i : ℕ) → i < s .depth → i ≢ e → RecordOk words' (s .used) (N s) (S s) P pc pt (phaseAt (s .stack) i)
-    keeps i hi ne = record-own (s .words) words' (s .used) (s .used) (N s) (S s) P P pc pc pt pt mv (λ x m. m) (phaseAt (s .stack) i)
-        (λ p o. same p (lone i p hi ne o) ∙ owner-at (s .words) (s .used) (N s) (S s) P pc pt (phaseAt (s .stack) i) p (v .records i hi) o .1) (v .records i hi)
+  headed-kept : Headed words' (N s) P
+  headed-kept =
+      record {
+        last = flag-other reflagged (P (N s)) (λ q. moving .notLast (sym q)) ∙ head .last;
+        only = λ p hp pr f. head .only p hp pr (sym (flag-other reflagged p (flag-apart reflagged p 1 (λ q. omega arith) f)) ∙ f);
+      }
 
-    pub cleared-control : Control (clear (page t) (page n) s) L pc pt
-    cleared-control = record {
-      links = reflag-links (s .words) words' t 0 (N s) (R s) L rf (v .links);
-      order = v .order;
-      joined = λ z. record {
-        next = rf .next (R s) ∙ v .joined z .next;
-        flag = λ f. by-eq (R s) t
-            (λ r. let a = rf .here in let b : flagOf words' t ≡ 1 = ap (flagOf words') (sym r) ∙ f in let y : ⊥ = omega arith in y)
-            (λ r. v .joined z .flag (sym (same (R s) r) ∙ f));
-      };
-      flags = headed (record {
-        last = same (P (N s)) (λ r. ok .0 .notLast (sym r)) ∙ hd .last;
-        only = λ p hp pr f. by-eq p t
-            (λ r. let a = rf .here in let b : flagOf words' t ≡ 1 = ap (flagOf words') (sym r) ∙ f in let y : ⊥ = omega arith in absurd y)
-            (λ r. hd .only p hp pr (sym (same p r) ∙ f));
-      });
-      owners = owners-set (s .words) words' (N s) (s .stack) (s .depth) e (rephase (s .stack) e (Push t n)) (v .owners) (omega arith) len
-          (λ p hp. by-eq p t (λ r. let z = ap (flagOf words') r ∙ rf .here in omega arith) (λ r. let z = same p r in let y = v .owners .small p hp in omega arith))
-          (λ p hp f. by-eq p t
-          (λ r. let a = rf .here in let b : flagOf words' t ≡ 2 = ap (flagOf words') (sym r) ∙ f in let y : ⊥ = omega arith in absurd y)
-          (λ r. inr (sym (same p r) ∙ f, rw q (λ z. r (sym z)))))
-          (λ p j hj nj z u. z);
-      depth = rw (length-set (s .stack) e (rephase (s .stack) e (Push t n))) (v .depth);
-      records = records-at (RecordOk words' (s .used) (N s) (S s) P pc pt) (s .stack) (s .depth) e (rephase (s .stack) e (Push t n)) len keeps (mv t n (ok .0));
-      reader = read-map (s .words) words' (N s) (R s) pc pc (λ h. h) (λ h. rf .other (R s) (λ r. away h (sym r))) (rf .next) (s .reader .phase) (v .reader);
-    }
+  owners-kept : Owners words' (N s) (set (s .stack) (topAt s) w) (s .depth)
+  owners-kept =
+      owners-set (s .stack) (topAt s) w (v .owners) (omega arith) (top-below v deep)
+      (reflag-small reflagged (omega arith) (v .owners .small))
+      (λ p hp f.
+      let apart = flag-apart reflagged p 2 (λ q. omega arith) f in
+      inr (sym (flag-other reflagged p apart) ∙ f, subst (λ (x : WriterPhase). ¬ Owns x p) (sym ph) (λ q. apart (sym q))))
+      (λ p j hj nj o u. o)
+
+  pub cleared-control : Control (clear (page t) (page n) s) L pc pt
+  cleared-control =
+      record {
+        links = reflag-links reflagged (v .links);
+        order = v .order;
+        joined = joined-kept;
+        flags = headed headed-kept;
+        owners = owners-kept;
+        depth = rw (length-set (s .stack) (topAt s) w) (v .depth);
+        records =
+            records-set (RecordOk words' (s .used) (N s) (S s) P pc pt) (s .stack) (s .depth) (topAt s) w (top-below v deep) record-kept (moving-kept t n moving);
+        reader =
+            reader-map (s .words) words' (N s) (R s) pc pc (λ h. h) (λ h. reflagged .other (R s) (λ q. t≢R h (sym q))) (reflagged .next) (s .reader .phase) (v .reader);
+      }

@@ -2,84 +2,74 @@
 -- Assumes nothing.
 use mathlib.Core.Path.{_≡_, refl, sym, ap, _∙_, subst}
 use mathlib.Core.Logic.{_≢_}
-use mathlib.Core.Bool.{true}
-use Prim.Native.Nat.{ℕ, suc, _-_, _≤_, _<_}
+use Prim.Native.Nat.{ℕ, suc, _-_, _≤_}
 use native.Mathlib.Omega.{arith}
-use lib.ListN.{length, getD}
 use Rattle.ring.specs.State.{top, setPhase}
-use Rattle.ring.specs.declared.state.WriterPhase.{WriterPhase}
 use Rattle.ring.specs.declared.state.WriterPhase.the-variants as phase
 use Rattle.ring.specs.declared.state.Ring.{Ring}
-use Rattle.ring.proofs.invariant.Order.{N, S, R, T, C, topAt, nextOf, flagOf, Mark, Promote, Push, Cycle, place}
-use Rattle.ring.proofs.invariant.Control.{At, RecordOk, Headless, Flags, headed, headless, Control}
-use Rattle.ring.proofs.control.Top.{retop-control, owner≢}
-use Rattle.ring.proofs.order.Places.{place-once, place-next, place-past}
+use Rattle.ring.proofs.invariant.Order.{N, S, R, T, C, nextOf, flagOf, usedOf, Mark, Push, place}
+use Rattle.ring.proofs.invariant.Control.{At, Free, headed, headless, RecordIn, HeadlessIn, FlagsIn, Control}
+use Rattle.ring.proofs.control.Phase.{newest-off, phase-control}
+use Rattle.ring.proofs.order.Places.{place-once, place-next, last-next}
 
-module _ (s : Ring) (L : ℕ → ℕ) (pc pt : ℕ) (v : Control s L pc pt) (deep : 1 ≤ s .depth) where
-  abbrev e : ℕ
-  e = topAt s
-
+module _ {s : Ring} {L : ℕ → ℕ} {pc pt : ℕ} (v : Control s L pc pt) (deep : 1 ≤ s .depth) (want : top s .phase ≡ phase.Want) (out : S s ≤ usedOf s (T s)) where
   abbrev P : ℕ → ℕ
   P = place (R s) L
 
-  abbrev c : Cycle (N s) (R s) L
-  c = v .links .cycle
+  -- the page after the tail page
+  abbrev n : ℕ
+  n = nextOf (s .words) (T s)
 
-  abbrev Ok : WriterPhase → Type 0
-  Ok = RecordOk (s .words) (s .used) (N s) (S s) P pc pt
+  free : Free (top s .phase)
+  free = subst Free (sym want) (λ p o. o)
 
-  len : e < length (s .stack)
-  len = omega (arith, v .depth)
+  spot : At (s .used) (S s) P pc pt (T s)
+  spot =
+      let o = v .order in
+      record { k = pt; lo = o .le; hi = omega arith; is = o .tailAt; full = omega (arith, o .cap) }
 
-  module _ (q : top s .phase ≡ phase.Want) (out : S s ≤ getD (s .used) (T s) 0) where
-    spot : At (s .used) (S s) P pc pt (T s)
-    spot = let o = v .order in record { k = pt; lo = o .le; hi = omega arith; is = o .tailAt; full = omega (arith, o .cap) }
+  -- while there is no header mark, the tail page has the owner's mark, and is no reader page
+  headless-flag : HeadlessIn s L pc → flagOf (s .words) (T s) ≡ 2
+  headless-flag o =
+      let r = subst (RecordIn s L pc pt) (o .owner) (v .records (o .a) (o .below)) in
+      ap (flagOf (s .words)) (o .tailed) ∙ r .1
 
-    lastNotR : P (N s) ≢ R s
-    lastNotR r = let z = c .two in let y = place-once (N s) (R s) L c (N s) 0 (omega arith) (omega arith) r in let x : ⊥ = omega arith in x
+  headless-off : HeadlessIn s L pc → T s ≢ R s
+  headless-off o q = omega (arith, o .ahead, v .order .le, place-once (v .links .cycle) pt 0 (v .order .top) (omega arith) (v .order .tailAt ∙ q))
 
-    want≢ : (o : Headless (s .words) (N s) P (T s) pc (s .stack) (s .depth)) → o .a ≢ e
-    want≢ o = owner≢ s L pc pt v deep phase.Want q o (λ r. let z : _≡_ {A = ℕ} 0 1 = cc in let y : ⊥ = omega arith in y)
+  -- a. t is the reader page
+  pub look-reader : T s ≡ R s → Control (setPhase (Push (T s) (nextOf (s .words) (T s))) s) L pc pt
+  look-reader q =
+      phase-control v deep (Push (T s) n) free (λ p o. o)
+      (record { spot = spot; next = refl; notLast = λ z. newest-off v (sym z ∙ q) })
+      (λ o. absurd (headless-off o q))
 
-    -- the tail of an open ring is marked, and is no reader page
-    open-flag : (o : Headless (s .words) (N s) P (T s) pc (s .stack) (s .depth)) → flagOf (s .words) (T s) ≡ 2
-    open-flag o =
-        let r : Ok (Promote (P (N s - 1)) (P (N s)) true) = subst Ok (o .owner) (v .records (o .a) (o .below)) in
-        ap (flagOf (s .words)) (o .tailed) ∙ r .1
+  -- f. flag NORMAL
+  pub look-push : flagOf (s .words) (T s) ≡ 0 → Control (setPhase (Push (T s) (nextOf (s .words) (T s))) s) L pc pt
+  look-push f =
+      phase-control v deep (Push (T s) n) free (λ p o. o)
+      (record { spot = spot; next = refl; notLast = not-last (v .flags) })
+      (λ o. absurd (omega (arith, headless-flag o)))
+    where
+      not-last : FlagsIn s L pc → T s ≢ P (N s)
+      not-last (headed h) q = omega (arith, ap (flagOf (s .words)) q, h .last)
+      not-last (headless o) q = omega (arith, headless-flag o)
 
-    open-off : (o : Headless (s .words) (N s) P (T s) pc (s .stack) (s .depth)) → T s ≢ R s
-    open-off o r =
-        let z = place-once (N s) (R s) L c pt 0 (v .order .top) (omega arith) (v .order .tailAt ∙ r) in
-        let y : ⊥ = omega (arith, o .ahead, v .order .le) in y
+  -- e. flag HEADER or UPDATE, past the cases b and c
+  pub look-mark : nextOf (s .words) (T s) ≢ C s → (flagOf (s .words) (T s) ≡ 1 → C s ≢ R s) → Control (setPhase (Mark (T s) (nextOf (s .words) (T s))) s) L pc pt
+  look-mark not-commit not-reader =
+      phase-control v deep (Mark (T s) n) free (λ p o. o) (record { spot = spot; room = room (v .flags) }) (λ o. (o .tailed, to-newest o))
+    where
+      to-newest : (o : HeadlessIn s L pc) → n ≡ P (N s)
+      to-newest o =
+          let last : suc (N s - 1) ≡ N s = omega (arith, v .links .cycle .two) in
+          ap (nextOf (s .words)) (o .tailed) ∙ place-next (v .links) (N s - 1) (omega (arith, v .links .cycle .two)) ∙ ap P last
 
-    pub look-reader : T s ≡ R s → Control (setPhase (Push (T s) (nextOf (s .words) (T s))) s) L pc pt
-    look-reader r = retop-control s L pc pt v (Push (T s) (nextOf (s .words) (T s))) deep (λ p. rw q (λ o. o)) (λ p o. o)
-        (record { spot = spot; next = refl; notLast = λ z. lastNotR (sym z ∙ r) })
-        (λ o. absurd (open-off o r))
-
-    pub look-push : flagOf (s .words) (T s) ≡ 0 → Control (setPhase (Push (T s) (nextOf (s .words) (T s))) s) L pc pt
-    look-push f = retop-control s L pc pt v (Push (T s) (nextOf (s .words) (T s))) deep (λ p. rw q (λ o. o)) (λ p o. o)
-        (record { spot = spot; next = refl; notLast = go (v .flags) })
-        (λ o. let z = open-flag o in let y : ⊥ = omega arith in absurd y)
-      where
-        go : Flags (s .words) (N s) P (T s) pc (s .stack) (s .depth) → T s ≢ P (N s)
-        go (headed h) r = let z = ap (flagOf (s .words)) r in let x = h .last in let y : ⊥ = omega arith in y
-        go (headless o) r = let z = open-flag o in let y : ⊥ = omega arith in y
-
-    pub look-mark : nextOf (s .words) (T s) ≢ C s → (flagOf (s .words) (T s) ≡ 1 → C s ≢ R s) → Control (setPhase (Mark (T s) (nextOf (s .words) (T s))) s) L pc pt
-    look-mark ncp nr = retop-control s L pc pt v (Mark (T s) (nextOf (s .words) (T s))) deep (λ p. rw q (λ o. o)) (λ p o. o)
-        (record { spot = spot; room = go (v .flags) })
-        (λ o. (want≢ o, (o .tailed, ap (nextOf (s .words)) (o .tailed) ∙ place-next (s .words) (N s) (R s) L (v .links) (N s - 1) (omega (arith, c .two)) ∙ ap P (sucPred (c .two)))))
-      where
-        sucPred : 2 ≤ N s → suc (N s - 1) ≡ N s
-        sucPred h = omega arith
-
-        go : Flags (s .words) (N s) P (T s) pc (s .stack) (s .depth) → T s ≡ P (N s) → 2 ≤ pc
-        go (headed h) r =
-            let n1 : nextOf (s .words) (T s) ≡ P 1 = ap (nextOf (s .words)) r ∙ place-next (s .words) (N s) (R s) L (v .links) (N s) (omega (arith, c .two)) ∙ place-past (N s) (R s) L c in
-            let a : pc ≢ 1 = λ z. ncp (n1 ∙ ap P (sym z) ∙ v .order .commitAt) in
-            let b : pc ≢ 0 = λ z. nr (ap (flagOf (s .words)) r ∙ h .last) (sym (v .order .commitAt) ∙ ap P z) in
-            omega arith
-        go (headless o) r =
-            let z = place-once (N s) (R s) L c (N s - 1) (N s) (omega arith) (omega arith) (sym (o .tailed) ∙ r) in
-            let y : ⊥ = omega (arith, c .two) in absurd y
+      room : FlagsIn s L pc → T s ≡ P (N s) → 2 ≤ pc
+      room (headed h) q =
+          let to-oldest : n ≡ P 1 = ap (nextOf (s .words)) q ∙ last-next (v .links) in
+          let not-one : pc ≢ 1 = λ z. not-commit (to-oldest ∙ ap P (sym z) ∙ v .order .commitAt) in
+          let not-zero : pc ≢ 0 = λ z. not-reader (ap (flagOf (s .words)) q ∙ h .last) (sym (v .order .commitAt) ∙ ap P z) in
+          omega arith
+      room (headless o) q =
+          absurd (omega (arith, v .links .cycle .two, place-once (v .links .cycle) (N s - 1) (N s) (omega arith) (omega arith) (sym (o .tailed) ∙ q)))

@@ -1,84 +1,95 @@
--- A popped record keeps control: Pending, Dropped, and Committed, which moves the commit page to the tail page.
+-- A popped record that owns no mark keeps control: Pending, Dropped, and Committed, which moves the commit page to the tail page.
 -- Assumes nothing.
-use mathlib.Core.Path.{_≡_, refl, subst}
+use mathlib.Core.Path.{_≡_, refl, sym, _∙_, subst}
 use mathlib.Core.Logic.{_≢_}
+use mathlib.Core.List.{List}
 use Prim.Native.Nat.{ℕ, _≤_, _<_}
 use native.Mathlib.Omega.{arith}
-use lib.ListN.{length, set, length-set}
+use lib.ListN.{set, length-set}
 use Rattle.ring.specs.Lists.{at}
 use Rattle.ring.specs.State.{noWriter, top, pop}
 use Rattle.ring.specs.Write.{drop, commit}
 use Rattle.ring.specs.declared.state.WriterPhase.{WriterPhase}
 use Rattle.ring.specs.declared.state.WriterPhase.the-variants as phase
+use Rattle.ring.specs.declared.state.Writer.{Writer}
 use Rattle.ring.specs.declared.state.Ring.{Ring}
-use Rattle.ring.proofs.invariant.Order.{N, S, R, T, topAt, phaseAt, Cycle, place}
-use Rattle.ring.proofs.invariant.Control.{RecordOk, Owns, Headless, Flags, headed, headless, Control}
-use Rattle.ring.proofs.control.Top.{owner≢, headed-by}
-use Rattle.ring.proofs.order.Places.{phase-other, read-map}
+use Rattle.ring.proofs.invariant.Order.{N, R, T, topAt, phaseAt, place}
+use Rattle.ring.proofs.invariant.Control.{Owns, Free, Owners, Above, Flags, headed, headless, FlagsIn, Control}
+use Rattle.ring.proofs.control.Phase.{not-owner, headed-by}
+use Rattle.ring.proofs.order.Records.{phase-other, reader-map}
 
-module _ (s : Ring) (L : ℕ → ℕ) (pc pt : ℕ) (v : Control s L pc pt) (deep : 1 ≤ s .depth) where
-  abbrev e : ℕ
-  e = topAt s
+module _ {s : Ring} {L : ℕ → ℕ} {pc pt : ℕ} (v : Control s L pc pt) (deep : 1 ≤ s .depth) where
+  abbrev stack' : List Writer
+  stack' = set (s .stack) (topAt s) noWriter
 
-  abbrev P : ℕ → ℕ
-  P = place (R s) L
+  -- below the top the records stay
+  below-top : (i : ℕ) → i < topAt s → phaseAt stack' i ≡ phaseAt (s .stack) i
+  below-top i h = phase-other (s .stack) (topAt s) i noWriter (omega arith)
 
-  abbrev c : Cycle (N s) (R s) L
-  c = v .links .cycle
-
-  abbrev Ok : WriterPhase → Type 0
-  Ok = RecordOk (s .words) (s .used) (N s) (S s) P pc pt
-
-  len : e < length (s .stack)
-  len = omega (arith, v .depth)
-
-  pub popped-control : ((p : ℕ) → ¬ Owns (phaseAt (s .stack) e) p) → ((o : Headless (s .words) (N s) P (T s) pc (s .stack) (s .depth)) → o .a ≢ e) → Control (pop s) L pc pt
-  popped-control no-own fit = record {
-    links = v .links;
-    order = v .order;
-    joined = v .joined;
-    flags = go (v .flags);
-    owners = record {
-      small = v .owners .small;
-      some = λ p hp f. let u = v .owners .some p hp f in
-          let ne : u .0 ≢ e = λ r. no-own p (subst (λ (i : ℕ). Owns (phaseAt (s .stack) i) p) r (u .2)) in
-          let h = u .1 in
-          (u .0, omega arith, rw (phase-other (s .stack) e (u .0) noWriter ne) (u .2));
-      one = λ i j p hi hj a b. v .owners .one i j p (omega arith) (omega arith)
-          (rw (phase-other (s .stack) e i noWriter (omega arith)) at a) (rw (phase-other (s .stack) e j noWriter (omega arith)) at b);
-    };
-    depth = rw (length-set (s .stack) e noWriter) (omega (arith, v .depth));
-    records = λ i hi. rw (phase-other (s .stack) e i noWriter (omega arith)) (v .records i (omega arith));
-    reader = v .reader;
-  }
-    where
-      go : Flags (s .words) (N s) P (T s) pc (s .stack) (s .depth) → Flags (s .words) (N s) P (T s) pc (set (s .stack) e noWriter) e
-      go (headed h) = headed h
-      go (headless o) = let ne = fit o in headless (record {
+  flags-kept : Free (top s .phase) → FlagsIn s L pc → Flags (s .words) (N s) (place (R s) L) (T s) pc stack' (topAt s)
+  flags-kept free (headed h) = headed h
+  flags-kept free (headless o) =
+      let below = not-owner v deep free o in
+      headless (record {
         none = o .none;
         last = o .last;
         tailed = o .tailed;
         ahead = o .ahead;
         a = o .a;
-        below = omega arith;
-        owner = rw (phase-other (s .stack) e (o .a) noWriter ne) (o .owner);
-        above = λ i lo hi. rw (phase-other (s .stack) e i noWriter (omega arith)) (o .above i lo (omega arith));
+        below = below;
+        owner = below-top (o .a) below ∙ o .owner;
+        above = λ i lo hi. rw (below-top i hi) (o .above i lo (omega arith));
       })
 
-  filled≢ : top s .phase ≡ phase.Filled → (o : Headless (s .words) (N s) P (T s) pc (s .stack) (s .depth)) → o .a ≢ e
-  filled≢ q o = owner≢ s L pc pt v deep phase.Filled q o (λ r. let z : _≡_ {A = ℕ} 0 1 = cc in let y : ⊥ = omega arith in y)
+  owners-kept : Free (top s .phase) → Owners (s .words) (N s) stack' (topAt s)
+  owners-kept free =
+      record {
+        small = v .owners .small;
+        some = λ p hp f.
+            let u = v .owners .some p hp f in
+            let apart : u .0 ≢ topAt s = λ q. free p (subst (λ (i : ℕ). Owns (phaseAt (s .stack) i) p) q (u .2)) in
+            let below : u .0 < topAt s = omega (arith, u .1) in
+            (u .0, below, rw (below-top (u .0) below) (u .2));
+        one = λ i j p hi hj a b. v .owners .one i j p (omega arith) (omega arith) (rw (below-top i hi) at a) (rw (below-top j hj) at b);
+      }
+
+  -- Pending, and what Dropped and Committed have of it
+  pub popped-control : Free (top s .phase) → Control (pop s) L pc pt
+  popped-control free =
+      record {
+        links = v .links;
+        order = v .order;
+        joined = v .joined;
+        flags = flags-kept free (v .flags);
+        owners = owners-kept free;
+        depth = rw (length-set (s .stack) (topAt s) noWriter) (omega (arith, v .depth));
+        records = λ i hi. rw (below-top i hi) (v .records i (omega arith));
+        reader = v .reader;
+      }
 
   pub pending-control : top s .phase ≡ phase.Filled → Control (pop s) L pc pt
-  pending-control q = popped-control (λ p. rw q (λ o. o)) (filled≢ q)
+  pending-control ph = popped-control (subst Free (sym ph) (λ p o. o))
 
+  -- control does not read the count of drops
   pub dropped-control : top s .phase ≡ phase.Want → Control (drop s) L pc pt
-  dropped-control q = let u = popped-control (λ p. rw q (λ o. o)) (λ o. owner≢ s L pc pt v deep phase.Want q o (λ r. let z : _≡_ {A = ℕ} 0 1 = cc in let y : ⊥ = omega arith in y)) in
-      record { links = u .links; order = u .order; joined = u .joined; flags = u .flags; owners = u .owners; depth = u .depth; records = u .records; reader = u .reader }
+  dropped-control ph =
+      let u = popped-control (subst Free (sym ph) (λ p o. o)) in
+      record {
+        links = u .links;
+        order = u .order;
+        joined = u .joined;
+        flags = u .flags;
+        owners = u .owners;
+        depth = u .depth;
+        records = u .records;
+        reader = u .reader;
+      }
 
+  -- the last record goes: no record has seen a page, and there is a header mark
   pub committed-control : top s .phase ≡ phase.Filled → s .depth ≡ 1 → Control (commit s) L pt pt
-  committed-control q one =
-      let u = popped-control (λ p. rw q (λ o. o)) (filled≢ q) in
-      let h = headed-by s L pc pt v deep phase.Filled q (λ r. let z : _≡_ {A = ℕ} 0 1 = cc in let y : ⊥ = omega arith in y) (λ a. a) in
+  committed-control ph one =
+      let free : Free (top s .phase) = subst Free (sym ph) (λ p o. o) in
+      let u = popped-control free in
       let o = v .order in
       record {
         links = v .links;
@@ -90,13 +101,14 @@ module _ (s : Ring) (L : ℕ → ℕ) (pc pt : ℕ) (v : Control s L pc pt) (dee
           room = o .room;
           cap = o .cap;
           full = o .full;
-          full0 = λ z y. let x : ⊥ = omega arith in absurd x;
+          full0 = λ z y. absurd (omega arith);
           empty = o .empty;
         };
         joined = λ z. v .joined (omega (arith, o .le));
-        flags = headed h;
+        flags = headed (headed-by v deep free (λ a b. subst (λ (x : WriterPhase). Above a b x → ⊥) (sym ph) (λ z. z)));
         owners = u .owners;
         depth = u .depth;
-        records = λ i hi. let x : ⊥ = omega arith in absurd x;
-        reader = read-map (s .words) (s .words) (N s) (R s) pc pt (λ z. omega (arith, o .le)) (λ z. refl) (λ p. refl) (s .reader .phase) (v .reader);
+        records = λ i hi. absurd (omega arith);
+        reader =
+            reader-map (s .words) (s .words) (N s) (R s) pc pt (λ z. omega (arith, o .le)) (λ z. refl) (λ p. refl) (s .reader .phase) (v .reader);
       }

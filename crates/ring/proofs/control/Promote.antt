@@ -1,129 +1,162 @@
--- A PROMOTE that finds no header keeps the invariant: the ring is headed again, at its last page.
+-- PROMOTE keeps control. Standing changes only the phase. Promoted: there was no header mark, so this record is the owner or stands above it, n is the newest page, and its
+-- word gets the header mark.
 -- Assumes nothing.
 use mathlib.Core.Path.{_≡_, refl, sym, ap, _∙_, subst}
-use mathlib.Core.Logic.{_≢_, _⊎_, inl, inr}
+use mathlib.Core.Logic.{_≢_, _⊎_, inl, inr, ⊎-elim}
 use mathlib.Core.Bool.{Bool, true, false}
 use mathlib.Core.List.{List}
-use Prim.Native.Nat.{ℕ, _+_, _-_, _*_, _%_, _≤_, _<_}
+use Prim.Native.Nat.{ℕ, _+_, _-_, _*_, _≤_, _<_}
 use native.Mathlib.Omega.{arith}
-use lib.ListN.{length, set, length-set}
-use Rattle.ring.specs.Lists.{first, none}
-use Rattle.ring.specs.State.{page, top}
+use lib.ListN.{set, length-set}
+use Rattle.ring.specs.State.{page, top, setPhase}
 use Rattle.ring.specs.Write.{afterPromote, promote}
 use Rattle.ring.specs.declared.state.WriterPhase.{WriterPhase}
 use Rattle.ring.specs.declared.state.Writer.{Writer}
 use Rattle.ring.specs.declared.state.Ring.{Ring}
 use Rattle.ring.proofs.Lists.{by-eq}
-use Rattle.ring.proofs.invariant.Order.{N, S, R, T, topAt, nextOf, flagOf, phaseAt, rephase, Promote, Clear, Push, Cycle, place}
-use Rattle.ring.proofs.invariant.Control.{Moving, RecordOk, Owns, Owners, Above, Headless, Flags, headed, headless, Control}
-use Rattle.ring.proofs.order.Places.{page-once, place-once, place-le, Reflag, reflag, reflag-links, record-map, records-set, owners-set, read-map}
+use Rattle.ring.proofs.invariant.Order.{N, S, R, topAt, nextOf, flagOf, phaseAt, rephase, Promote, place}
+use Rattle.ring.proofs.invariant.Control.{Moving, RecordOk, Owns, Owners, Above, headed, headless, RecordIn, HeadedIn, HeadlessIn, FlagsIn, Control}
+use Rattle.ring.proofs.control.Phase.{owner-in, newest-off, top-below, top-ok}
+use Rattle.ring.proofs.order.Places.{page-once, place-le}
+use Rattle.ring.proofs.order.Records.{Reflag, reflag, flag-other, flag-apart, reflag-links, reflag-small, record-map, records-set, owners-set, reader-map}
 
-open-of : {w : List ℕ} {N : ℕ} {P : ℕ → ℕ} {tail pc : ℕ} {st : List Writer} {d : ℕ} → Flags w N P tail pc st d → (flagOf w (P N) ≢ 1) → Headless w N P tail pc st d
-open-of (headed h) f = absurd (f (h .last))
-open-of (headless o) f = o
+-- ---- the phase after PROMOTE owns what PROMOTE does
 
-above-is : (a b t n : ℕ) (own : Bool) → Above a b (Promote t n own) → (t ≡ a) × (n ≡ b)
-above-is a b t n true q = absurd q
-above-is a b t n false q = q
+own-same : (own : Bool) (t n p : ℕ) → Owns (afterPromote (page t) (page n) own) p → Owns (Promote t n own) p
+own-same true t n p q = q
+own-same false t n p q = q
 
-promote-is : (a b t n : ℕ) (x own : Bool) → Promote t n own ≡ Promote a b x → (t ≡ a) × (n ≡ b)
-promote-is a b t n x own q =
+own-or : (own : Bool) (t n p : ℕ) → Owns (afterPromote (page t) (page n) own) p ⊎ ¬ Owns (Promote t n own) p
+own-or true t n p = by-eq t p (λ q. inl q) (λ q. inr q)
+own-or false t n p = inr (λ q. q)
+
+-- ---- (t, n) of the record, where it is the owner or above it
+
+owner-pages : (a b t n : ℕ) (own : Bool) → Promote t n own ≡ Promote a b true → (t ≡ a) × (n ≡ b)
+owner-pages a b t n own q =
     let first : page t ≡ page a = cc in
     let second : page n ≡ page b = cc in
     (page-once first, page-once second)
 
-module _ (s : Ring) (L : ℕ → ℕ) (pc pt : ℕ) (v : Control s L pc pt) (deep : 1 ≤ s .depth) (t n : ℕ) (own : Bool) (ph : top s .phase ≡ Promote t n own)
-    (none : (p : ℕ) → p ≤ N s → p ≢ R s → flagOf (s .words) p ≢ 1) where
-  abbrev e : ℕ
-  e = topAt s
+above-pages : (a b t n : ℕ) (own : Bool) → Above a b (Promote t n own) → (t ≡ a) × (n ≡ b)
+above-pages a b t n true q = absurd q
+above-pages a b t n false q = q
 
-  abbrev c : Cycle (N s) (R s) L
-  c = v .links .cycle
-
+module _ {s : Ring} {L : ℕ → ℕ} {pc pt : ℕ} (v : Control s L pc pt) (deep : 1 ≤ s .depth) (t n : ℕ) (own : Bool) (ph : top s .phase ≡ Promote t n own) where
   abbrev P : ℕ → ℕ
   P = place (R s) L
 
-  abbrev words' : List ℕ
-  words' = set (s .words) n (4 * nextOf (s .words) n + 1)
+  abbrev next : WriterPhase
+  next = afterPromote (page t) (page n) own
 
-  last≢R : P (N s) ≢ R s
-  last≢R q = let h = c .two in let z = place-once (N s) (R s) L c (N s) 0 (omega arith) (omega arith) q in let y : ⊥ = omega arith in y
+  abbrev w : Writer
+  w = rephase (s .stack) (topAt s) (afterPromote (page t) (page n) own)
 
-  o : Headless (s .words) (N s) P (T s) pc (s .stack) (s .depth)
-  o = open-of (v .flags) (none (P (N s)) (place-le (N s) (R s) L c (N s)) last≢R)
+  old : RecordIn s L pc pt (Promote t n own)
+  old = top-ok v deep (Promote t n own) ph
 
-  both : (t ≡ P (N s - 1)) × (n ≡ P (N s))
-  both = by-eq (o .a) e
-      (λ q. promote-is _ _ t n true own (sym ph ∙ ap (phaseAt (s .stack)) (sym q) ∙ o .owner))
-      (λ q. let b = o .below in above-is _ _ t n own (subst (Above (P (N s - 1)) (P (N s))) ph (o .above e (omega arith) (omega arith))))
+  -- the new phase is right where the old one was
+  after-ok : (A : WriterPhase → Type 0) → ((b : Bool) → A (Promote t n b) → A (afterPromote (page t) (page n) b)) → A (top s .phase) → A next
+  after-ok A up x = up own (subst A ph x)
 
-  nl : n ≡ P (N s)
-  nl = both .1
+  -- ---- owners of marks
 
-  n≢R : n ≢ R s
-  n≢R q = last≢R (sym nl ∙ q)
+  -- a mark of the old words is the record's own still, or was not its own
+  source : (p : ℕ) → flagOf (s .words) p ≡ 2 → Owns next p ⊎ ((flagOf (s .words) p ≡ 2) × ¬ Owns (top s .phase) p)
+  source p f = ⊎-elim (λ q. inl q) (λ q. inr (f, subst (λ (x : WriterPhase). ¬ Owns x p) (sym ph) q)) (own-or own t n p)
 
-  n≤N : n ≤ N s
-  n≤N = rw nl (place-le (N s) (R s) L c (N s))
+  alone : (p j : ℕ) → j < s .depth → j ≢ topAt s → Owns next p → Owns (phaseAt (s .stack) j) p → ⊥
+  alone p j hj nj q u =
+      nj (v .owners .one j (topAt s) p hj (omega arith) u (subst (λ (x : WriterPhase). Owns x p) (sym ph) (own-same own t n p q)))
 
-  rf : Reflag (s .words) words' n 1
-  rf = reflag (s .words) n (nextOf (s .words) n) 1 (let a = v .links .linked .room in let b = n≤N in omega arith) (omega arith) refl
+  -- ---- Standing
 
-  same : (p : ℕ) → p ≢ n → flagOf words' p ≡ flagOf (s .words) p
-  same p q = ap (λ (z : ℕ). z % 4) (rf .other p q)
+  standing-ok : (b : Bool) → RecordIn s L pc pt (Promote t n b) → RecordIn s L pc pt (afterPromote (page t) (page n) b)
+  standing-ok true r = r
+  standing-ok false r = r
 
-  abbrev Old : WriterPhase → Type 0
-  Old = RecordOk (s .words) (s .used) (N s) (S s) P pc pt
+  pub standing-control : HeadedIn s L → Control (setPhase (afterPromote (page t) (page n) own) s) L pc pt
+  standing-control h =
+      record {
+        links = v .links;
+        order = v .order;
+        joined = v .joined;
+        flags = headed h;
+        owners = owners-set (s .stack) (topAt s) w (v .owners) (omega arith) (top-below v deep) (v .owners .small) (λ p hp f. source p f) alone;
+        depth = rw (length-set (s .stack) (topAt s) w) (v .depth);
+        records = records-set (RecordIn s L pc pt) (s .stack) (s .depth) (topAt s) w (top-below v deep) (λ i hi ne. v .records i hi) (standing-ok own old);
+        reader = v .reader;
+      }
 
-  abbrev New : WriterPhase → Type 0
-  New = RecordOk words' (s .used) (N s) (S s) P pc pt
+  -- ---- Promoted
 
-  moving-up : (x y : ℕ) → Moving (s .words) (s .used) (N s) (S s) P pc pt x y → Moving words' (s .used) (N s) (S s) P pc pt x y
-  moving-up x y m = record { spot = m .spot; next = rf .next x ∙ m .next; notLast = m .notLast }
+  module _ (none : (p : ℕ) → p ≤ N s → p ≢ R s → flagOf (s .words) p ≢ 1) where
+    abbrev words' : List ℕ
+    words' = set (s .words) n (4 * nextOf (s .words) n + 1)
 
-  up : (q : WriterPhase) → Old q → New q
-  up = record-map (s .words) words' (s .used) (s .used) (N s) (S s) P P pc pc pt pt moving-up (λ x m. m) (λ x y m f. same x (λ q. m .notLast (q ∙ nl)) ∙ f)
+    gap : HeadlessIn s L pc
+    gap = go (v .flags)
+      where
+        go : FlagsIn s L pc → HeadlessIn s L pc
+        go (headed h) = absurd (none (P (N s)) (place-le (v .links .cycle) (N s)) (newest-off v) (h .last))
+        go (headless o) = o
 
-  new-rec : (b : Bool) → Old (Promote t n b) → New (afterPromote (page t) (page n) b)
-  new-rec true r = up (Clear t n) r
-  new-rec false r = up (Push t n) r
+    pages : (t ≡ P (N s - 1)) × (n ≡ P (N s))
+    pages =
+        by-eq (gap .a) (topAt s)
+        (λ q. owner-pages _ _ t n own (sym ph ∙ ap (phaseAt (s .stack)) (sym q) ∙ gap .owner))
+        (λ q. above-pages _ _ t n own (subst (Above (P (N s - 1)) (P (N s))) ph (gap .above (topAt s) (omega (arith, gap .below)) (omega arith))))
 
-  e<len : e < length (s .stack)
-  e<len = let a = v .depth in omega arith
+    n-newest : n ≡ P (N s)
+    n-newest = pages .1
 
-  old : Old (Promote t n own)
-  old = subst Old ph (v .records e (omega arith))
+    n≢R : n ≢ R s
+    n≢R q = newest-off v (sym n-newest ∙ q)
 
-  -- the old record and the new one own the same
-  own-same : (b : Bool) (p : ℕ) → Owns (afterPromote (page t) (page n) b) p → Owns (Promote t n b) p
-  own-same true p q = q
-  own-same false p q = q
+    n≤N : n ≤ N s
+    n≤N = rw n-newest (place-le (v .links .cycle) (N s))
 
-  own-or : (b : Bool) (p : ℕ) → Owns (afterPromote (page t) (page n) b) p ⊎ ¬ Owns (Promote t n b) p
-  own-or true p = by-eq t p (λ q. inl q) (λ q. inr q)
-  own-or false p = inr (λ q. q)
+    reflagged : Reflag (s .words) words' n 1
+    reflagged = reflag (s .words) n (nextOf (s .words) n) 1 (omega (arith, v .links .linked .room, n≤N)) (omega arith) refl
 
-  source : (p : ℕ) → flagOf (s .words) p ≡ 2 → Owns (afterPromote (page t) (page n) own) p ⊎ ¬ Owns (Promote t n own) p → Owns (afterPromote (page t) (page n) own) p ⊎ ((flagOf (s .words) p ≡ 2) × ¬ Owns (phaseAt (s .stack) e) p)
-  source p f (inl q) = inl q
-  source p f (inr q) = inr (f, rw ph q)
+    moving-kept : (x y : ℕ) → Moving (s .words) (s .used) (N s) (S s) P pc pt x y → Moving words' (s .used) (N s) (S s) P pc pt x y
+    moving-kept x y m = record { spot = m .spot; next = reflagged .next x ∙ m .next; notLast = m .notLast }
 
-  owners' : Owners words' (N s) (set (s .stack) e (rephase (s .stack) e (afterPromote (page t) (page n) own))) (s .depth)
-  owners' = owners-set (s .words) words' (N s) (s .stack) (s .depth) e (rephase (s .stack) e (afterPromote (page t) (page n) own)) (v .owners) (omega arith) e<len
-      (λ p hp. by-eq p n (λ q. let z = ap (flagOf words') q ∙ rf .here in omega arith) (λ q. let z = same p q in let y = v .owners .small p hp in omega arith))
-      (λ p hp f. by-eq p n (λ q. let z = sym (ap (flagOf words') q ∙ rf .here) ∙ f in let y : ⊥ = omega arith in absurd y) (λ q. source p (sym (same p q) ∙ f) (own-or own p)))
-      (λ p j hj nj q u. nj (v .owners .one j e p hj (omega arith) u (rw ph (own-same own p q))))
+    -- an owner's page is not the newest, so its mark stays
+    record-kept : (i : ℕ) → i < s .depth → RecordOk words' (s .used) (N s) (S s) P pc pt (phaseAt (s .stack) i)
+    record-kept i hi =
+        record-map moving-kept (λ x m. m) (phaseAt (s .stack) i)
+        (λ p o.
+        let k = owner-in v i p hi o in
+        flag-other reflagged p (λ q. k .1 (q ∙ n-newest)) ∙ k .2)
+        (v .records i hi)
 
-  pub promoted-control : Control (promote (page n) (afterPromote (page t) (page n) own) s) L pc pt
-  promoted-control = record {
-    links = reflag-links (s .words) words' n 1 (N s) (R s) L rf (v .links);
-    order = v .order;
-    joined = λ q. let a = o .ahead in let z : ⊥ = omega arith in absurd z;
-    flags = headed (record {
-      last = ap (flagOf words') (sym nl) ∙ rf .here;
-      only = λ p hp pr f. by-eq p n (λ q. q ∙ nl) (λ q. absurd (none p hp pr (sym (same p q) ∙ f)));
-    });
-    owners = owners';
-    depth = rw (length-set (s .stack) e (rephase (s .stack) e (afterPromote (page t) (page n) own))) (v .depth);
-    records = records-set Old New (s .stack) (s .depth) e (rephase (s .stack) e (afterPromote (page t) (page n) own)) e<len (v .records) up (new-rec own old);
-    reader = read-map (s .words) words' (N s) (R s) pc pc (λ h. h) (λ h. rf .other (R s) (λ q. n≢R (sym q))) (rf .next) (s .reader .phase) (v .reader);
-  }
+    promoted-ok : (b : Bool) → RecordOk words' (s .used) (N s) (S s) P pc pt (Promote t n b) → RecordOk words' (s .used) (N s) (S s) P pc pt (afterPromote (page t) (page n) b)
+    promoted-ok true r = r
+    promoted-ok false r = r
+
+    owners-kept : Owners words' (N s) (set (s .stack) (topAt s) w) (s .depth)
+    owners-kept =
+        owners-set (s .stack) (topAt s) w (v .owners) (omega arith) (top-below v deep)
+        (reflag-small reflagged (omega arith) (v .owners .small))
+        (λ p hp f. source p (sym (flag-other reflagged p (flag-apart reflagged p 2 (λ z. omega arith) f)) ∙ f))
+        alone
+
+    pub promoted-control : Control (promote (page n) (afterPromote (page t) (page n) own) s) L pc pt
+    promoted-control =
+        record {
+          links = reflag-links reflagged (v .links);
+          order = v .order;
+          joined = λ q. absurd (omega (arith, gap .ahead));
+          flags = headed (record {
+            last = ap (flagOf words') (sym n-newest) ∙ reflagged .here;
+            only = λ p hp pr f. by-eq p n (λ q. q ∙ n-newest) (λ q. absurd (none p hp pr (sym (flag-other reflagged p q) ∙ f)));
+          });
+          owners = owners-kept;
+          depth = rw (length-set (s .stack) (topAt s) w) (v .depth);
+          records =
+              records-set (RecordOk words' (s .used) (N s) (S s) P pc pt) (s .stack) (s .depth) (topAt s) w (top-below v deep) (λ i hi ne. record-kept i hi)
+              (after-ok (RecordOk words' (s .used) (N s) (S s) P pc pt) promoted-ok (record-kept (topAt s) (omega arith)));
+          reader =
+              reader-map (s .words) words' (N s) (R s) pc pc (λ h. h) (λ h. reflagged .other (R s) (λ q. n≢R (sym q))) (reflagged .next) (s .reader .phase) (v .reader);
+        }

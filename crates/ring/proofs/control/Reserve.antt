@@ -1,90 +1,90 @@
--- A reservation in the tail page keeps control.
+-- A reservation keeps control: only the tail page's used grows, and no record has seen that page as full.
 -- Assumes nothing.
 use mathlib.Core.Path.{_≡_, sym, ap, _∙_, subst}
-use mathlib.Core.Logic.{_≢_, inr}
-use mathlib.Core.Bool.{true}
+use mathlib.Core.Logic.{_≢_}
 use mathlib.Core.List.{List}
-use Prim.Native.Nat.{ℕ, _+_, _-_, _≤_, _<_}
+use Prim.Native.Nat.{ℕ, _+_, _≤_, _<_}
 use native.Mathlib.Omega.{arith}
-use lib.ListN.{length, getD, set, length-set}
+use lib.ListN.{getD, set, length-set}
 use lib.Seq.{getD-set-same, getD-set-other}
-use Rattle.ring.specs.Lists.{at}
 use Rattle.ring.specs.State.{top}
 use Rattle.ring.specs.Write.{reserve}
 use Rattle.ring.specs.declared.state.WriterPhase.{WriterPhase}
 use Rattle.ring.specs.declared.state.WriterPhase.the-variants as phase
 use Rattle.ring.specs.declared.state.Ring.{Ring}
-use Rattle.ring.proofs.invariant.Order.{N, S, R, T, topAt, usedOf, rephase, Promote, Held, Cycle, place}
-use Rattle.ring.proofs.invariant.Control.{At, RecordOk, Headed, Flags, headed, headless, Control}
-use Rattle.ring.proofs.order.Places.{place-once, place-le, record-map, records-set, owners-set}
+use Rattle.ring.proofs.invariant.Order.{N, S, R, T, C, topAt, flagOf, usedOf, phaseAt, rephase, Held, place}
+use Rattle.ring.proofs.invariant.Control.{At, RecordOk, Owns, Free, headed, headless, Order, RecordIn, HeadedIn, FlagsIn, Control}
+use Rattle.ring.proofs.control.Phase.{owner-in, tail-le, top-below, owners-free}
+use Rattle.ring.proofs.order.Places.{place-once}
+use Rattle.ring.proofs.order.Records.{record-map, records-set}
 
-module _ (s : Ring) (L : ℕ → ℕ) (pc pt : ℕ) (v : Control s L pc pt) (deep : 1 ≤ s .depth) where
-  abbrev e : ℕ
-  e = topAt s
-
+module _ {s : Ring} {L : ℕ → ℕ} {pc pt : ℕ} (v : Control s L pc pt) (deep : 1 ≤ s .depth) (want : top s .phase ≡ phase.Want) (room : usedOf s (T s) < S s) where
   abbrev P : ℕ → ℕ
   P = place (R s) L
 
-  abbrev c : Cycle (N s) (R s) L
-  c = v .links .cycle
+  abbrev used' : List ℕ
+  used' = set (s .used) (T s) (usedOf s (T s) + 1)
 
-  abbrev Ok : WriterPhase → Type 0
-  Ok = RecordOk (s .words) (s .used) (N s) (S s) P pc pt
+  -- without a header mark the tail page would be the owner's, and full
+  head : HeadedIn s L
+  head = go (v .flags)
+    where
+      go : FlagsIn s L pc → HeadedIn s L
+      go (headed h) = h
+      go (headless o) =
+          let r = subst (RecordIn s L pc pt) (o .owner) (v .records (o .a) (o .below)) in
+          absurd (omega (arith, ap (usedOf s) (o .tailed), r .0 .spot .full))
 
-  len : e < length (s .stack)
-  len = omega (arith, v .depth)
+  kept : (p : ℕ) → p ≢ T s → getD used' p 0 ≡ usedOf s p
+  kept p n = getD-set-other (s .used) (T s) p _ 0 n
 
-  module _ (q : top s .phase ≡ phase.Want) (room : getD (s .used) (T s) 0 < S s) where
-    abbrev used' : List ℕ
-    used' = set (s .used) (T s) (getD (s .used) (T s) 0 + 1)
+  off-tail : (i : ℕ) → i ≢ pt → i ≤ N s → P i ≢ T s
+  off-tail i n h q = n (place-once (v .links .cycle) i pt h (v .order .top) (q ∙ sym (v .order .tailAt)))
 
-    hdr : Headed (s .words) (N s) P
-    hdr = go (v .flags)
-      where
-        go : Flags (s .words) (N s) P (T s) pc (s .stack) (s .depth) → Headed (s .words) (N s) P
-        go (headed h) = h
-        go (headless o) =
-            let r : Ok (Promote (P (N s - 1)) (P (N s)) true) = subst Ok (o .owner) (v .records (o .a) (o .below)) in
-            let f : getD (s .used) (T s) 0 ≡ S s = ap (λ (x : ℕ). getD (s .used) x 0) (o .tailed) ∙ r .0 .spot .full in
-            let z : ⊥ = omega arith in absurd z
+  spot-kept : (t : ℕ) → At (s .used) (S s) P pc pt t → At used' (S s) P pc pt t
+  spot-kept t a =
+      record {
+        k = a .k;
+        lo = a .lo;
+        hi = a .hi;
+        is = a .is;
+        full = kept t (λ q. omega (arith, a .full, ap (usedOf s) q)) ∙ a .full;
+      }
 
-    kept : (x : ℕ) → x ≢ T s → getD used' x 0 ≡ getD (s .used) x 0
-    kept x ne = getD-set-other (s .used) (T s) x _ 0 ne
+  record-kept : (ph : WriterPhase) → ((p : ℕ) → Owns ph p → flagOf (s .words) p ≡ 2) → RecordIn s L pc pt ph
+      → RecordOk (s .words) used' (N s) (S s) P pc pt ph
+  record-kept =
+      record-map
+      (λ t n m. record { spot = spot-kept t (m .spot); next = m .next; notLast = m .notLast })
+      (λ t m. record { spot = spot-kept t (m .spot); room = m .room })
 
-    off-tail : (i : ℕ) → i ≢ pt → i ≤ N s → P i ≢ T s
-    off-tail i ne h r = ne (place-once (N s) (R s) L c i pt h (v .order .top) (r ∙ sym (v .order .tailAt)))
-
-    at-up : (x : ℕ) → At (s .used) (S s) P pc pt x → At used' (S s) P pc pt x
-    at-up x a = record {
-      k = a .k;
-      lo = a .lo;
-      hi = a .hi;
-      is = a .is;
-      full = kept x (λ r. let z = a .full in let y : getD (s .used) x 0 ≡ getD (s .used) (T s) 0 = ap (λ (u : ℕ). getD (s .used) u 0) r in let w : ⊥ = omega arith in w) ∙ a .full;
-    }
-
-    pub reserved-control : Control (reserve (s .places .tail) (usedOf s (T s)) s) L pc pt
-    reserved-control = let o = v .order in record {
-      links = v .links;
-      order = record {
+  order-kept : Order used' (N s) (S s) (T s) (C s) P pc pt
+  order-kept =
+      let o = v .order in
+      record {
         tailAt = o .tailAt;
         commitAt = o .commitAt;
         le = o .le;
         top = o .top;
-        room = rw (length-set (s .used) (T s) (getD (s .used) (T s) 0 + 1)) (o .room);
-        cap = rw (getD-set-same (s .used) (T s) (getD (s .used) (T s) 0 + 1) 0 (omega (arith, rw (o .tailAt) at (place-le (N s) (R s) L c pt), o .room))) (omega arith);
+        room = rw (length-set (s .used) (T s) (usedOf s (T s) + 1)) (o .room);
+        cap = rw (getD-set-same (s .used) (T s) (usedOf s (T s) + 1) 0 (omega (arith, tail-le v, o .room))) (omega arith);
         full = λ i lo hi. kept (P i) (off-tail i (omega arith) (omega arith)) ∙ o .full i lo hi;
         full0 = λ z hi. kept (P 0) (off-tail 0 (omega arith) (omega arith)) ∙ o .full0 z hi;
         empty = λ i lo hi. kept (P i) (off-tail i (omega arith) hi) ∙ o .empty i lo hi;
-      };
-      joined = v .joined;
-      flags = headed hdr;
-      owners = owners-set (s .words) (s .words) (N s) (s .stack) (s .depth) e _ (v .owners) (omega arith) len (v .owners .small)
-          (λ p hp f. inr (f, rw q (λ z. z))) (λ p j hj nj z u. z);
-      depth = rw (length-set (s .stack) e (rephase (s .stack) e (Held (T s) (getD (s .used) (T s) 0)))) (v .depth);
-      records = records-set Ok (RecordOk (s .words) used' (N s) (S s) P pc pt) (s .stack) (s .depth) e _ len (v .records)
-          (record-map (s .words) (s .words) (s .used) used' (N s) (S s) P P pc pc pt pt
-          (λ x y m. record { spot = at-up x (m .spot); next = m .next; notLast = m .notLast })
-          (λ x m. record { spot = at-up x (m .spot); room = m .room }) (λ x y m f. f)) tt;
-      reader = v .reader;
-    }
+      }
+
+  pub reserved-control : Control (reserve (s .places .tail) (usedOf s (T s)) s) L pc pt
+  reserved-control =
+      let held = rephase (s .stack) (topAt s) (Held (T s) (usedOf s (T s))) in
+      record {
+        links = v .links;
+        order = order-kept;
+        joined = v .joined;
+        flags = headed head;
+        owners = owners-free v deep held (subst Free (sym want) (λ p o. o)) (λ p o. o);
+        depth = rw (length-set (s .stack) (topAt s) held) (v .depth);
+        records =
+            records-set (RecordOk (s .words) used' (N s) (S s) P pc pt) (s .stack) (s .depth) (topAt s) held (top-below v deep)
+            (λ i hi n. record-kept (phaseAt (s .stack) i) (λ p o. owner-in v i p hi o .2) (v .records i hi)) tt;
+        reader = v .reader;
+      }

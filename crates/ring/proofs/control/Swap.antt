@@ -1,27 +1,25 @@
--- A successful swap keeps the invariant: every place moves down by one, the old reader page becomes the last page.
+-- A successful swap keeps control: p was the newest page and h the oldest. Every place moves down by one, h becomes the reader page, and the old reader page, with the
+-- header mark that was prepared in its word, the newest.
 -- Assumes nothing.
 use mathlib.Core.Path.{_≡_, sym, ap, _∙_, subst}
 use mathlib.Core.Logic.{_≢_}
 use mathlib.Core.List.{List}
-use Prim.Native.Nat.{ℕ, zero, suc, _+_, _-_, _*_, _/_, _%_, _≤_}
+use Prim.Native.Nat.{ℕ, suc, _+_, _-_, _*_, _/_, _%_, _≤_, _<_}
 use native.Mathlib.Omega.{arith}
 use lib.ListN.{getD, set, length-set}
 use lib.Seq.{getD-set-same, getD-set-other}
 use Rattle.ring.specs.State.{page}
 use Rattle.ring.specs.Read.{swap}
-use Rattle.ring.specs.declared.state.WriterPhase.{WriterPhase}
 use Rattle.ring.specs.declared.state.Ring.{Ring}
 use Rattle.ring.proofs.Lists.{by-eq, by-lt}
-use Rattle.ring.proofs.invariant.Order.{N, S, R, T, C, nextOf, flagOf, phaseAt, Ready, Cycle, place, swapped}
-use Rattle.ring.proofs.invariant.Control.{At, Moving, Marking, RecordOk, Headed, headed, Order, ReaderOk, Control}
-use Rattle.ring.proofs.control.Mark.{head-of}
-use Rattle.ring.proofs.order.Links.{swap-links}
-use Rattle.ring.proofs.order.Places.{place-once, place-next, place-past, place-swap, place-swap-last, record-map}
+use Rattle.ring.proofs.invariant.Order.{N, S, R, T, C, nextOf, flagOf, usedOf, phaseAt, Ready, place, swapped}
+use Rattle.ring.proofs.invariant.Control.{At, Moving, Marking, RecordOk, Owners, Headed, headed, Order, Joined, ReaderOk, HeadedIn, Control}
+use Rattle.ring.proofs.control.Phase.{head-of, owner-in}
+use Rattle.ring.proofs.order.Places.{place-once, place-off, last-next, place-swap, place-swap-last}
+use Rattle.ring.proofs.order.Records.{record-map}
+use Rattle.ring.proofs.order.Swap.{swap-links}
 
-module _ (s : Ring) (L : ℕ → ℕ) (pc pt : ℕ) (v : Control s L pc pt) (p h : ℕ) (rd : s .reader .phase ≡ Ready p h) (hw : getD (s .words) p 0 ≡ 4 * h + 1) where
-  abbrev c : Cycle (N s) (R s) L
-  c = v .links .cycle
-
+module _ {s : Ring} {L : ℕ → ℕ} {pc pt : ℕ} (v : Control s L pc pt) (p h : ℕ) (ready : s .reader .phase ≡ Ready p h) (hw : getD (s .words) p 0 ≡ 4 * h + 1) where
   abbrev P : ℕ → ℕ
   P = place (R s) L
 
@@ -34,115 +32,169 @@ module _ (s : Ring) (L : ℕ → ℕ) (pc pt : ℕ) (v : Control s L pc pt) (p h
   abbrev used' : List ℕ
   used' = set (s .used) (R s) 0
 
-  pub rdy : ReaderOk (s .words) (N s) (R s) pc (Ready p h)
-  rdy = subst (ReaderOk (s .words) (N s) (R s) pc) rd (v .reader)
+  -- ---- which pages p and h are
 
-  pub pc1 : 1 ≤ pc
-  pc1 = rdy .0
+  ok : ReaderOk (s .words) (N s) (R s) pc (Ready p h)
+  ok = subst (ReaderOk (s .words) (N s) (R s) pc) ready (v .reader)
 
-  pub hd : Headed (s .words) (N s) P
-  hd = head-of (v .flags) p (rdy .1) (rdy .2) (omega arith)
+  pub commit-ahead : 1 ≤ pc
+  commit-ahead = ok .0
 
-  pub pl : p ≡ P (N s)
-  pl = hd .only p (rdy .1) (rdy .2) (omega arith)
+  head : HeadedIn s L
+  head = head-of (v .flags) p (ok .1) (ok .2) (omega arith)
 
-  pub toH : nextOf (s .words) p ≡ L 0
-  toH = let z = c .two in ap (nextOf (s .words)) pl ∙ place-next (s .words) (N s) (R s) L (v .links) (N s) (omega arith) ∙ place-past (N s) (R s) L c
+  p-newest : p ≡ P (N s)
+  p-newest = head .only p (ok .1) (ok .2) (omega arith)
 
-  pub hh : h ≡ L 0
-  hh = let a : nextOf (s .words) p ≡ h = omega arith in sym a ∙ toH
+  to-oldest : nextOf (s .words) p ≡ L 0
+  to-oldest = ap (nextOf (s .words)) p-newest ∙ last-next (v .links)
 
-  fromR : nextOf (s .words) (R s) ≡ L 1
-  fromR = let a = rdy .5 in let b : nextOf (s .words) (R s) ≡ nextOf (s .words) h = omega arith in b ∙ ap (nextOf (s .words)) hh ∙ v .links .linked .step 0
+  pub h-oldest : h ≡ L 0
+  h-oldest =
+      let next : nextOf (s .words) p ≡ h = omega arith in
+      sym next ∙ to-oldest
 
-  other : (q : ℕ) → q ≢ p → getD words' q 0 ≡ getD (s .words) q 0
-  other q ne = getD-set-other (s .words) p q (4 * R s + 0) 0 ne
+  from-reader : nextOf (s .words) (R s) ≡ L 1
+  from-reader =
+      let next : nextOf (s .words) (R s) ≡ nextOf (s .words) h = omega (arith, ok .5) in
+      next ∙ ap (nextOf (s .words)) h-oldest ∙ v .links .linked .step 0
+
+  oldest-not-p : L 0 ≢ p
+  oldest-not-p q = omega (arith, v .links .cycle .two, place-once (v .links .cycle) 1 (N s) (omega (arith, v .links .cycle .two)) (omega arith) (q ∙ p-newest))
+
+  -- ---- words
 
   here : getD words' p 0 ≡ 4 * R s + 0
-  here = getD-set-same (s .words) p (4 * R s + 0) 0 (let a = v .links .linked .room in let b = rdy .1 in omega arith)
+  here = getD-set-same (s .words) p (4 * R s + 0) 0 (omega (arith, v .links .linked .room, ok .1))
 
-  pub down : (i : ℕ) → 1 ≤ i → i ≤ N s → P' (i - 1) ≡ P i
-  down i lo hi = let q : suc (i - 1) ≡ i = omega arith in place-swap (N s) (R s) L c (i - 1) (omega arith) ∙ ap P q
+  other : (q : ℕ) → q ≢ p → getD words' q 0 ≡ getD (s .words) q 0
+  other q n = getD-set-other (s .words) p q (4 * R s + 0) 0 n
 
-  pub lastR : P' (N s) ≡ R s
-  lastR = place-swap-last (N s) (R s) L c
+  same-flag : (q : ℕ) → q ≢ p → flagOf words' q ≡ flagOf (s .words) q
+  same-flag q n = ap (λ (w : ℕ). w % 4) (other q n)
 
-  pub offR : (i : ℕ) → 1 ≤ i → P i ≢ R s
-  offR zero lo q = let z : ⊥ = omega arith in z
-  offR (suc i) lo q = c .off i q
+  same-next : (q : ℕ) → q ≢ p → nextOf words' q ≡ nextOf (s .words) q
+  same-next q n = ap (λ (w : ℕ). w / 4) (other q n)
 
-  firstNotP : L 0 ≢ p
-  firstNotP q = let z = c .two in let y = place-once (N s) (R s) L c 1 (N s) (omega arith) (omega arith) (q ∙ pl) in let x : ⊥ = omega arith in x
+  -- p has no mark now
+  marked-apart : (q f : ℕ) → f ≢ 0 → flagOf words' q ≡ f → q ≢ p
+  marked-apart q f n h e = n (omega (arith, here, ap (flagOf words') e))
 
-  at-off : (x : ℕ) → At (s .used) (S s) P pc pt x → x ≢ R s
-  at-off x a q = let z = pc1 in offR (a .k) (omega arith) (a .is ∙ q)
+  -- ---- places, one lower
 
-  at-up : (x : ℕ) → At (s .used) (S s) P pc pt x → At used' (S s) P' (pc - 1) (pt - 1) x
-  at-up x a = let z = pc1 in let o = v .order .top in record {
-    k = a .k - 1;
-    lo = omega arith;
-    hi = omega arith;
-    is = down (a .k) (omega arith) (omega arith) ∙ a .is;
-    full = getD-set-other (s .used) (R s) x 0 0 (at-off x a) ∙ a .full;
-  }
+  pub lower-swap : (i : ℕ) → 1 ≤ i → i ≤ N s → P' (i - 1) ≡ P i
+  lower-swap i lo hi =
+      let q : suc (i - 1) ≡ i = omega arith in
+      place-swap (v .links .cycle) (i - 1) (omega arith) ∙ ap P q
 
-  moving-up : (x y : ℕ) → Moving (s .words) (s .used) (N s) (S s) P pc pt x y → Moving words' used' (N s) (S s) P' (pc - 1) (pt - 1) x y
-  moving-up x y m = record {
-    spot = at-up x (m .spot);
-    next = ap (λ (z : ℕ). z / 4) (other x (λ q. m .notLast (q ∙ pl))) ∙ m .next;
-    notLast = λ q. at-off x (m .spot) (q ∙ lastR);
-  }
+  pub newest-swap : P' (N s) ≡ R s
+  newest-swap = place-swap-last (v .links .cycle)
 
-  marking-up : (x : ℕ) → Marking (s .used) (N s) (S s) P pc pt x → Marking used' (N s) (S s) P' (pc - 1) (pt - 1) x
-  marking-up x m = record { spot = at-up x (m .spot); room = λ q. absurd (at-off x (m .spot) (q ∙ lastR)) }
+  -- ---- records
 
-  up : (q : WriterPhase) → RecordOk (s .words) (s .used) (N s) (S s) P pc pt q → RecordOk words' used' (N s) (S s) P' (pc - 1) (pt - 1) q
-  up = record-map (s .words) words' (s .used) used' (N s) (S s) P P' pc (pc - 1) pt (pt - 1) moving-up marking-up
-      (λ x y m f. ap (λ (z : ℕ). z % 4) (other x (λ q. m .notLast (q ∙ pl))) ∙ f)
+  seen-off : (x : ℕ) → At (s .used) (S s) P pc pt x → x ≢ R s
+  seen-off x a q = place-off (v .links .cycle) (a .k) (omega (arith, a .lo, commit-ahead)) (a .is ∙ q)
 
-  order' : Order used' (N s) (S s) (T s) (C s) P' (pc - 1) (pt - 1)
-  order' =
-      let a = pc1 in
-      let o = v .order in
-      let n2 = c .two in
+  spot-kept : (x : ℕ) → At (s .used) (S s) P pc pt x → At used' (S s) P' (pc - 1) (pt - 1) x
+  spot-kept x a =
+      let one = commit-ahead in
+      let top = v .order .top in
       record {
-        tailAt = down pt (omega arith) (omega arith) ∙ o .tailAt;
-        commitAt = down pc (omega arith) (omega arith) ∙ o .commitAt;
-        le = omega arith;
-        top = omega arith;
+        k = a .k - 1;
+        lo = omega (arith, a .lo);
+        hi = omega (arith, a .hi);
+        is = lower-swap (a .k) (omega (arith, a .lo)) (omega (arith, a .hi)) ∙ a .is;
+        full = getD-set-other (s .used) (R s) x 0 0 (seen-off x a) ∙ a .full;
+      }
+
+  moving-kept : (x y : ℕ) → Moving (s .words) (s .used) (N s) (S s) P pc pt x y → Moving words' used' (N s) (S s) P' (pc - 1) (pt - 1) x y
+  moving-kept x y m =
+      record {
+        spot = spot-kept x (m .spot);
+        next = same-next x (λ q. m .notLast (q ∙ p-newest)) ∙ m .next;
+        notLast = λ q. seen-off x (m .spot) (q ∙ newest-swap);
+      }
+
+  marking-kept : (x : ℕ) → Marking (s .used) (N s) (S s) P pc pt x → Marking used' (N s) (S s) P' (pc - 1) (pt - 1) x
+  marking-kept x m = record { spot = spot-kept x (m .spot); room = λ q. absurd (seen-off x (m .spot) (q ∙ newest-swap)) }
+
+  record-kept : (i : ℕ) → i < s .depth → RecordOk words' used' (N s) (S s) P' (pc - 1) (pt - 1) (phaseAt (s .stack) i)
+  record-kept i hi =
+      record-map moving-kept marking-kept (phaseAt (s .stack) i)
+      (λ q o.
+      let k = owner-in v i q hi o in
+      same-flag q (λ e. k .1 (e ∙ p-newest)) ∙ k .2)
+      (v .records i hi)
+
+  -- ---- order, flags and owners
+
+  used-kept : (i : ℕ) → 1 ≤ i → getD used' (P i) 0 ≡ usedOf s (P i)
+  used-kept i lo = getD-set-other (s .used) (R s) (P i) 0 0 (place-off (v .links .cycle) i lo)
+
+  order-kept : Order used' (N s) (S s) (T s) (C s) P' (pc - 1) (pt - 1)
+  order-kept =
+      let one = commit-ahead in
+      let o = v .order in
+      let two = v .links .cycle .two in
+      record {
+        tailAt = lower-swap pt (omega (arith, o .le)) (o .top) ∙ o .tailAt;
+        commitAt = lower-swap pc one (omega (arith, o .le, o .top)) ∙ o .commitAt;
+        le = omega (arith, o .le);
+        top = omega (arith, o .top);
         room = rw (length-set (s .used) (R s) 0) (o .room);
-        cap = rw (getD-set-other (s .used) (R s) (T s) 0 0 (λ q. offR pt (omega arith) (o .tailAt ∙ q))) (o .cap);
-        full = λ i lo hi. rw (place-swap (N s) (R s) L c i (omega arith), getD-set-other (s .used) (R s) (P (suc i)) 0 0 (offR (suc i) (omega arith))) (o .full (suc i) (omega arith) (omega arith));
-        full0 = λ q hi. rw (getD-set-other (s .used) (R s) (P 1) 0 0 (offR 1 (omega arith))) (o .full 1 (omega arith) (omega arith));
-        empty = λ i lo hi. by-lt i (N s)
-            (λ b. rw (place-swap (N s) (R s) L c i b, getD-set-other (s .used) (R s) (P (suc i)) 0 0 (offR (suc i) (omega arith))) (o .empty (suc i) (omega arith) (omega arith)))
-            (λ b. let q : i ≡ N s = omega arith in rw (q, lastR) (getD-set-same (s .used) (R s) 0 0 (let r = o .room in let y = c .reader in omega arith)));
+        cap = rw (← (o .tailAt)) (omega (arith, used-kept pt (omega (arith, o .le)), ap (usedOf s) (o .tailAt), o .cap));
+        full = λ i lo hi. rw (place-swap (v .links .cycle) i (omega (arith, o .top))) (used-kept (suc i) (omega arith) ∙ o .full (suc i) (omega arith) (omega arith));
+        full0 = λ q hi. used-kept 1 (omega arith) ∙ o .full 1 (omega arith) (omega arith);
+        empty = λ i lo hi.
+            by-lt i (N s)
+            (λ b. rw (place-swap (v .links .cycle) i b) (used-kept (suc i) (omega arith) ∙ o .empty (suc i) (omega arith) (omega arith)))
+            (λ b.
+            let q : i ≡ N s = omega arith in
+            rw (q, newest-swap) (getD-set-same (s .used) (R s) 0 0 (omega (arith, o .room, v .links .cycle .reader))));
+      }
+
+  headed-kept : Headed words' (N s) P'
+  headed-kept =
+      record {
+        last = rw newest-swap (omega (arith, other (R s) (λ q. ok .2 (sym q)), ok .5));
+        only = λ q hq nq f.
+            let apart = marked-apart q 1 (λ z. omega arith) f in
+            by-eq q (R s)
+            (λ e. e ∙ sym newest-swap)
+            (λ n. absurd (apart (head .only q hq n (sym (same-flag q apart) ∙ f) ∙ sym p-newest)));
+      }
+
+  owners-kept : Owners words' (N s) (s .stack) (s .depth)
+  owners-kept =
+      record {
+        small = λ q hq.
+            by-eq q p
+            (λ e. omega (arith, here, ap (flagOf words') e))
+            (λ n. omega (arith, same-flag q n, v .owners .small q hq));
+        some = λ q hq f. v .owners .some q hq (sym (same-flag q (marked-apart q 2 (λ z. omega arith) f)) ∙ f);
+        one = v .owners .one;
+      }
+
+  -- the new reader page still leads into the ring
+  joined-now : pc - 1 ≡ 0 → Joined words' P'
+  joined-now z =
+      record {
+        next = same-next (L 0) oldest-not-p ∙ v .links .linked .step 0 ∙ sym (place-swap (v .links .cycle) 1 (v .links .cycle .two));
+        flag = λ f. oldest-not-p (head .only (L 0) (v .links .cycle .bound 0) (v .links .cycle .off 0) (sym (same-flag (L 0) oldest-not-p) ∙ f) ∙ sym p-newest);
       }
 
   core : Control (swap (page p) (page (L 0)) s) (swapped L (R s)) (pc - 1) (pt - 1)
-  core = record {
-    links = swap-links (s .words) (N s) (R s) L (v .links) p (rdy .1) (rdy .2) toH fromR;
-    order = order';
-    joined = λ q. record {
-      next = ap (λ (z : ℕ). z / 4) (other (L 0) firstNotP) ∙ v .links .linked .step 0 ∙ sym (place-swap (N s) (R s) L c 1 (c .two));
-      flag = λ f. firstNotP (hd .only (L 0) (c .bound 0) (c .off 0) (sym (ap (λ (z : ℕ). z % 4) (other (L 0) firstNotP)) ∙ f) ∙ sym pl);
-    };
-    flags = headed (record {
-      last = rw lastR (let a = other (R s) (λ q. rdy .2 (sym q)) in let b = rdy .5 in omega arith);
-      only = λ q hq nq f. by-eq q p
-          (λ e. let a = here in let b : flagOf words' p ≡ 1 = ap (flagOf words') (sym e) ∙ f in let x : ⊥ = omega arith in absurd x)
-          (λ ne. by-eq q (R s) (λ e. e ∙ sym lastR) (λ nr. absurd (ne (hd .only q hq nr (sym (ap (λ (z : ℕ). z % 4) (other q ne)) ∙ f) ∙ sym pl))));
-    });
-    owners = record {
-      small = λ q hq. by-eq q p (λ e. let a = here in let b = ap (flagOf words') e in omega arith) (λ ne. let a = other q ne in let b = v .owners .small q hq in omega arith);
-      some = λ q hq f. by-eq q p (λ e. let a = here in let b : flagOf words' p ≡ 2 = ap (flagOf words') (sym e) ∙ f in let x : ⊥ = omega arith in absurd x)
-          (λ ne. v .owners .some q hq (sym (ap (λ (z : ℕ). z % 4) (other q ne)) ∙ f));
-      one = v .owners .one;
-    };
-    depth = v .depth;
-    records = λ i hi. up (phaseAt (s .stack) i) (v .records i hi);
-    reader = tt;
-  }
+  core =
+      record {
+        links = swap-links (v .links) p (ok .1) (ok .2) to-oldest from-reader;
+        order = order-kept;
+        joined = joined-now;
+        flags = headed headed-kept;
+        owners = owners-kept;
+        depth = v .depth;
+        records = record-kept;
+        reader = tt;
+      }
 
   pub swapped-control : Control (swap (page p) (page h) s) (swapped L (R s)) (pc - 1) (pt - 1)
-  swapped-control = subst (λ (x : ℕ). Control (swap (page p) (page x) s) (swapped L (R s)) (pc - 1) (pt - 1)) (sym hh) core
+  swapped-control = subst (λ (x : ℕ). Control (swap (page p) (page x) s) (swapped L (R s)) (pc - 1) (pt - 1)) (sym h-oldest) core

@@ -15,9 +15,9 @@ use Rattle.ring.proofs.demand.Marks.{visits, marks}
 use Rattle.ring.proofs.demand.Places.{open-from, settled-committed, one-place}
 use Rattle.ring.proofs.demand.Readings.{own-at, numbered-below, numbered-once}
 
-pub demand : (s : Ring) (h : History) (L : ℕ → ℕ) (pc pt a r0 gap : ℕ) → Control s L pc pt → Accounts s h L pc pt a r0 gap
+pub demand : {s : Ring} {h : History} {L : ℕ → ℕ} {pc pt a r0 gap : ℕ} → Control s L pc pt → Accounts s h L pc pt a r0 gap
     → Claim (receiptOf (s .counts)) (record { now = s; past = h })
-demand s h L pc pt a r0 gap v b =
+demand v b =
     record {
       numberedOnce = numbered-once (b .ordered);
       numberedBelow = numbered-below (b .ordered);

@@ -4,18 +4,19 @@ use mathlib.Core.Path.{_≡_, refl, sym, ap, subst}
 use mathlib.Core.Logic.{_≢_}
 use Prim.Native.Nat.{ℕ, zero, suc, _+_, _-_, _≤_, _<_}
 use native.Mathlib.Omega.{arith}
-use Rattle.ring.specs.Demand.{ExactlyOne, onlyFirst, onlySecond, onlyThird, onlyFourth, Count, none, counted, skipped}
+use Rattle.ring.specs.Lists.{all}
+use Rattle.ring.specs.Demand.{ExactlyOne, onlyFirst, onlySecond, onlyThird, onlyFourth, Count, start, counted, skipped}
 use Rattle.ring.proofs.Lists.{by-eq, by-lt}
 
 -- ---- one count only
 
 pub count-map : {A B : ℕ → Type 0} {n k : ℕ} → ((m : ℕ) → m < n → A m → B m) → ((m : ℕ) → m < n → B m → A m) → Count A n k → Count B n k
-count-map to from none = none
+count-map to from start = start
 count-map to from (counted {n = n} c p) = counted (count-map (λ m h. to m (omega arith)) (λ m h. from m (omega arith)) c) (to n (omega arith) p)
 count-map to from (skipped {n = n} c p) = skipped (count-map (λ m h. to m (omega arith)) (λ m h. from m (omega arith)) c) (λ q. p (from n (omega arith) q))
 
 pub count-once : {A : ℕ → Type 0} {n j k : ℕ} → Count A n j → Count A n k → j ≡ k
-count-once none none = refl
+count-once start start = refl
 count-once (counted c p) (counted d q) = ap suc (count-once c d)
 count-once (counted c p) (skipped d q) = absurd (q p)
 count-once (skipped c p) (counted d q) = absurd (p q)
@@ -24,16 +25,16 @@ count-once (skipped c p) (skipped d q) = count-once c d
 -- ---- all or fewer
 
 pub count-le : {A : ℕ → Type 0} {n k : ℕ} → Count A n k → k ≤ n
-count-le none = omega arith
+count-le start = omega arith
 count-le (counted c p) = omega (arith, count-le c)
 count-le (skipped c p) = omega (arith, count-le c)
 
 pub count-full : {A : ℕ → Type 0} (n : ℕ) → ((m : ℕ) → m < n → A m) → Count A n n
-count-full zero all = none
+count-full zero all = start
 count-full (suc n) all = counted (count-full n (λ m h. all m (omega arith))) (all n (omega arith))
 
 pub count-all : {A : ℕ → Type 0} {n k : ℕ} → Count A n k → k ≡ n → (m : ℕ) → m < n → A m
-count-all none q m h = absurd (omega arith)
+count-all start q m h = absurd (omega arith)
 count-all {A} (counted {n = n} c p) q m h = by-eq m n (λ e. subst A (sym e) p) (λ ne. count-all c (omega arith) m (omega arith))
 count-all (skipped c p) q m h = absurd (omega (arith, count-le c))
 
@@ -76,7 +77,7 @@ count-last {f} {n} {c} e count =
     (record { nth = c; below = omega arith; is = e })
 
 pub rising-count : (f : ℕ → ℕ) (n c : ℕ) → Rising f c → Under f c n → Count (Listed f c) n c
-rising-count f zero zero up low = none
+rising-count f zero zero up low = start
 rising-count f zero (suc c) up low = absurd (omega (arith, low c (omega arith)))
 rising-count f (suc n) zero up low =
     let none-under : Under f 0 n = λ k h. absurd (omega arith) in
@@ -91,7 +92,7 @@ rising-count f (suc n) (suc c) up low =
 -- ---- an interval
 
 pub from-count : (c n : ℕ) → Count (λ m. c ≤ m) n (n - c)
-from-count c zero = let q : 0 ≡ 0 - c = omega arith in rw (← q) none
+from-count c zero = let q : 0 ≡ 0 - c = omega arith in rw (← q) start
 from-count c (suc n) =
     by-lt n c
     (λ lt. let q : suc n - c ≡ n - c = omega arith in rw q (skipped (from-count c n) (λ le. absurd (omega arith))))
@@ -120,5 +121,5 @@ part-more k (onlyThird p q r s) = part (skipped (k .ofA) p) (skipped (k .ofB) q)
 part-more k (onlyFourth p q r s) = part (skipped (k .ofA) p) (skipped (k .ofB) q) (skipped (k .ofC) r) (counted (k .ofD) s) (omega arith)
 
 pub parts : {A B C D : ℕ → Type 0} (n : ℕ) → ((m : ℕ) → m < n → ExactlyOne (A m) (B m) (C m) (D m)) → Parts A B C D n
-parts zero one = part none none none none refl
+parts zero one = part start start start start refl
 parts (suc n) one = part-more (parts n (λ m h. one m (omega arith))) (one n (omega arith))

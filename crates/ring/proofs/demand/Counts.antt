@@ -10,10 +10,11 @@ use Rattle.ring.specs.Demand.{onlyFirst, onlySecond, onlyThird, onlyFour
 use Rattle.ring.specs.declared.state.Ring.{Ring}
 use Rattle.ring.proofs.invariant.Control.{Control}
 use Rattle.ring.proofs.invariant.Accounts.{lostOf, givenNumber, Accounts}
+use Rattle.ring.proofs.accounts.Laws.{committed-taken}
 use Rattle.ring.proofs.demand.Counting.{count-map, count-once, rising-count, from-count, Parts, parts}
 use Rattle.ring.proofs.demand.Events.{handed-in, handed-out}
 use Rattle.ring.proofs.demand.Lost.{lost-in, lost-out}
-use Rattle.ring.proofs.demand.Places.{runAt, Placed, committed-taken, handed-committed, lost-committed, waiting-committed, open-from, one-place}
+use Rattle.ring.proofs.demand.Places.{runAt, Placed, handed-committed, lost-committed, waiting-committed, open-from, one-place}
 
 module _ {s : Ring} {h : History} {L : ℕ → ℕ} {pc pt a r0 gap : ℕ} (v : Control s L pc pt) (b : Accounts s h L pc pt a r0 gap) where
   -- ---- handed out

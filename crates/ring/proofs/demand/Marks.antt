@@ -15,8 +15,8 @@ use Rattle.ring.proofs.invariant.Order.{N, S, R, T, nextOf, phaseAt, pl
 use Rattle.ring.proofs.invariant.Control.{RecordOk, Owns, Headed, Headless, Flags, headed, headless, Control}
 use Rattle.ring.proofs.invariant.Accounts.{Accounts}
 use Rattle.ring.proofs.demand.Places.{runAt}
-use Rattle.ring.proofs.order.Links.{walk, walks}
 use Rattle.ring.proofs.order.Places.{page-once}
+use Rattle.ring.proofs.order.Walk.{walk, walks}
 
 -- ---- moves and lists
 
@@ -49,7 +49,7 @@ module _ {s : Ring} {L : ℕ → ℕ} {pc pt : ℕ} (v : Control s L pc pt) wher
 
   pub visits : (p : PageNo) → RingPage s p → Visits s p
   visits p ring =
-      let w = walks (s .words) (N s) (R s) L (v .links) (p .0) (ring .page) (off-reader ring) in
+      let w = walks (v .links) (p .0) (ring .page) (off-reader ring) in
       let same : (k : ℕ) → moves (s .words) k p .0 ≡ walk (s .words) k (p .0) = λ k. moves-walk (s .words) k p in
       record {
         stays = λ k. ring-page (rw (same k) (w .stays k .0)) (rw (same k) (w .stays k .1));

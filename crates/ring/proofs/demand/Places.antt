@@ -11,15 +11,15 @@ use Rattle.ring.specs.Demand.{ExactlyOne, onlyFirst, onlySecond, onlyThi
 use Rattle.ring.specs.declared.state.PageNo.{PageNo}
 use Rattle.ring.specs.declared.state.Ring.{Ring}
 use Rattle.ring.proofs.Lists.{by-eq, by-lt}
-use Rattle.ring.proofs.invariant.Order.{N, R, C, usedOf, place}
+use Rattle.ring.proofs.invariant.Order.{R, usedOf}
 use Rattle.ring.proofs.invariant.Control.{Control}
 use Rattle.ring.proofs.invariant.Accounts.{valueOf, Accounts}
-use Rattle.ring.proofs.accounts.Laws.{stored-own, committed-le, read-le, page-le}
+use Rattle.ring.proofs.accounts.Laws.{stored-own, read-le, page-le}
 use Rattle.ring.proofs.demand.Events.{handed-in, handed-out, given-low}
 use Rattle.ring.proofs.demand.Lost.{lost-in, lost-out}
 use Rattle.ring.proofs.demand.Readings.{committed-at, own-at}
 use Rattle.ring.proofs.demand.Slots.{lies-below, reader-number, ring-from, ring-after, lies-once, in-reader, in-ring}
-use Rattle.ring.proofs.order.Places.{page-once, place-le}
+use Rattle.ring.proofs.order.Places.{page-once}
 
 abbrev pub runAt : Ring → History → Run
 runAt s h = record { now = s; past = h }
@@ -32,12 +32,6 @@ module _ {s : Ring} {h : History} {L : ℕ → ℕ} {pc pt a r0 gap : ℕ} (v : 
 
   read-committed : r0 + s .places .position ≤ s .counts .committed
   read-committed = read-le (b .sums)
-
-  pub committed-taken : s .counts .committed ≤ s .counts .taken
-  committed-taken =
-      committed-le (b .sums) (v .order .le)
-      (λ e. ap (usedOf s) (sym (v .order .commitAt) ∙ ap (place (R s) L) e ∙ v .order .tailAt))
-      (b .sizes .cap (C s) (rw (v .order .commitAt) at (place-le (N s) (R s) L (v .links .cycle) pc)))
 
   gap-committed : {m : ℕ} → r0 + usedOf s (R s) ≤ m → m < r0 + usedOf s (R s) + gap → m < s .counts .committed
   gap-committed lo hi =

@@ -1,6 +1,6 @@
 -- A ring that satisfies the invariant is in shape: a law for each group of tests of specs/Shape, then all of them together.
 -- Assumes nothing.
-use mathlib.Core.Path.{_≡_, refl, sym, ap, _∙_}
+use mathlib.Core.Path.{_≡_, refl}
 use mathlib.Core.Bool.{true, false}
 use Prim.Native.Nat.{ℕ, _+_, _≤_}
 use native.Mathlib.Omega.{arith}
@@ -20,31 +20,22 @@ use Rattle.ring.proofs.invariant.Order.{N, S, R, T, C, nextOf, flagOf, 
 use Rattle.ring.proofs.invariant.Control.{Moving, RecordOk, ReaderOk, Control}
 use Rattle.ring.proofs.invariant.Accounts.{Holding, HeldOk, Accounts}
 use Rattle.ring.proofs.invariant.Bounds.{AimFits, BoundsOf}
-use Rattle.ring.proofs.accounts.Laws.{committed-le, read-le, page-le}
+use Rattle.ring.proofs.accounts.Laws.{read-le, page-le, committed-taken}
 use Rattle.ring.proofs.bounds.Steps.{ring-next}
-use Rattle.ring.proofs.order.Places.{place-le}
+use Rattle.ring.proofs.control.Phase.{placed-le, tail-le, commit-le}
 
 -- what the test of two pages asks
 pages-fit : (p q : PageNo) (n : ℕ) → p .0 ≤ n → q .0 ≤ n → pagesFit p q n ≡ true
 pages-fit p q n hp hq = every-each (pageTests p q n) (le-leb (p .0) n hp, (le-leb (q .0) n hq, tt))
 
-module _ (s : Ring) (h : History) (L : ℕ → ℕ) (pc pt a r0 gap : ℕ) (v : Control s L pc pt) (b : Accounts s h L pc pt a r0 gap) (k : BoundsOf s) where
+module _ {s : Ring} {h : History} {L : ℕ → ℕ} {pc pt a r0 gap : ℕ} (v : Control s L pc pt) (b : Accounts s h L pc pt a r0 gap) (k : BoundsOf s) where
   abbrev P : ℕ → ℕ
   P = place (R s) L
 
   -- ---- pages
 
   pub words-fit : (p : ℕ) → p ≤ N s → nextOf (s .words) p ≤ N s
-  words-fit p hp = by-eq p (R s) (λ e. rw e (k .readerFits)) (ring-next (s .words) (N s) (R s) L (v .links) p hp)
-
-  place-fits : (i p : ℕ) → P i ≡ p → p ≤ N s
-  place-fits i p q = rw (← q) (place-le (N s) (R s) L (v .links .cycle) i)
-
-  pub tail-fits : T s ≤ N s
-  tail-fits = place-fits pt (T s) (v .order .tailAt)
-
-  commit-fits : C s ≤ N s
-  commit-fits = place-fits pc (C s) (v .order .commitAt)
+  words-fit p hp = by-eq p (R s) (λ e. rw e (k .readerFits)) (ring-next (v .links) p hp)
 
   -- ---- size and places
 
@@ -59,7 +50,7 @@ module _ (s : Ring) (h : History) (L : ℕ → ℕ) (pc pt a r0 gap : ℕ) (v : 
       )
 
   index-fits : s .places .index ≤ S s
-  index-fits = omega (arith, b .sums .indexed, b .sizes .cap (C s) commit-fits)
+  index-fits = omega (arith, b .sums .indexed, b .sizes .cap (C s) (commit-le v))
 
   position-fits : s .places .position ≤ S s
   position-fits = omega (arith, b .sums .read, b .sizes .cap (R s) (v .links .cycle .reader))
@@ -69,9 +60,9 @@ module _ (s : Ring) (h : History) (L : ℕ → ℕ) (pc pt a r0 gap : ℕ) (v : 
       every-each (placeTests (s .places) (s .size)) (
         le-leb (R s) (N s) (v .links .cycle .reader),
         (
-          le-leb (T s) (N s) tail-fits,
+          le-leb (T s) (N s) (tail-le v),
           (
-            le-leb (C s) (N s) commit-fits,
+            le-leb (C s) (N s) (commit-le v),
             (le-leb (s .places .index) (S s) index-fits, (le-leb (s .places .position) (S s) position-fits, tt)),
           ),
         ),
@@ -88,18 +79,18 @@ module _ (s : Ring) (h : History) (L : ℕ → ℕ) (pc pt a r0 gap : ℕ) (v : 
 
   moving-fits : (t n : PageNo) → Moving (s .words) (s .used) (N s) (S s) P pc pt (t .0) (n .0) → pagesFit t n (N s) ≡ true
   moving-fits t n o =
-      let ht = place-fits (o .spot .k) (t .0) (o .spot .is) in
+      let ht = placed-le v (o .spot .k) (t .0) (o .spot .is) in
       pages-fit t n (N s) ht (rw (← o .next) (words-fit (t .0) ht))
 
   held-fits : (p : PageNo) (j u : ℕ) → Holding (s .numbers) (s .used) (S s) P pc pt (s .counts .committed) (h .readings) (p .0) j u → heldFits p j (s .size) ≡ true
   held-fits p j u o =
-      let hp = place-fits (o .k) (p .0) (o .is) in
+      let hp = placed-le v (o .k) (p .0) (o .is) in
       every-each (heldTests p j (s .size)) (le-leb (p .0) (N s) hp, (lt-ltb j (S s) (omega (arith, o .slot, b .sizes .cap (p .0) hp)), tt))
 
   record-fits : (ph : WriterPhase) (u : ℕ) → RecordOk (s .words) (s .used) (N s) (S s) P pc pt ph
       → HeldOk (s .numbers) (s .used) (S s) P pc pt (s .counts .committed) (h .readings) u ph → AimFits (N s) ph → writerFits ph (s .size) ≡ true
   record-fits phase.Want u o q f = refl
-  record-fits (phase.Mark t n) u o q f = pages-fit t n (N s) (place-fits (o .spot .k) (t .0) (o .spot .is)) f
+  record-fits (phase.Mark t n) u o q f = pages-fit t n (N s) (placed-le v (o .spot .k) (t .0) (o .spot .is)) f
   record-fits (phase.Promote t n true) u o q f = moving-fits t n (o .0)
   record-fits (phase.Promote t n false) u o q f = moving-fits t n o
   record-fits (phase.Clear t n) u o q f = moving-fits t n (o .0)
@@ -130,12 +121,6 @@ module _ (s : Ring) (h : History) (L : ℕ → ℕ) (pc pt a r0 gap : ℕ) (v : 
 
   -- ---- counts
 
-  committed-taken : s .counts .committed ≤ s .counts .taken
-  committed-taken =
-      committed-le (b .sums) (v .order .le)
-      (λ e. ap (usedOf s) (sym (v .order .commitAt) ∙ ap P e ∙ v .order .tailAt))
-      (b .sizes .cap (C s) commit-fits)
-
   settled-committed : s .counts .handed + s .counts .overwritten ≤ s .counts .committed
   settled-committed =
       by-eq pc 0
@@ -149,7 +134,7 @@ module _ (s : Ring) (h : History) (L : ℕ → ℕ) (pc pt a r0 gap : ℕ) (v : 
   small =
       let begun = k .begunFits in
       let taken = taken-begun in
-      let committed = committed-taken in
+      let committed = committed-taken v b in
       let settled = settled-committed in
       let c = s .counts in
       every-each (smallTests c) (
@@ -171,7 +156,7 @@ module _ (s : Ring) (h : History) (L : ℕ → ℕ) (pc pt a r0 gap : ℕ) (v : 
       every-each (agreeTests (s .counts)) (
         le-leb (s .counts .handed + s .counts .overwritten) (s .counts .committed) settled-committed,
         (
-          le-leb (s .counts .committed) (s .counts .taken) committed-taken,
+          le-leb (s .counts .committed) (s .counts .taken) (committed-taken v b),
           (le-leb (s .counts .taken + s .counts .dropped) (s .counts .begun) taken-begun, tt),
         ),
       )

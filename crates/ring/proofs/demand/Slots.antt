@@ -5,7 +5,7 @@ use mathlib.Core.Path.{_≡_, sym, ap, _∙_}
 use mathlib.Core.Logic.{_≢_}
 use Prim.Native.Nat.{ℕ, suc, _+_, _-_, _*_, _/_, _%_, _≤_, _<_}
 use native.Mathlib.Omega.{arith}
-use native.Mathlib.Nat.{mul-le-mul-left, le-div-iff-mul-le, div-add-mod, mod-lt}
+use native.Mathlib.Nat.{mul-le-mul-left, div-add-mod, mod-lt, le-div-iff-mul-le}
 use Rattle.ring.specs.State.{page, numberAt}
 use Rattle.ring.specs.History.{History}
 use Rattle.ring.specs.Demand.{Lies}

@@ -35,12 +35,12 @@ module _ (pages slots mode : ℕ) (accepted : freshRule pages slots mode .answer
   in-shape : inShape (run .now) ≡ true
   in-shape =
       let g = invariant in
-      invariant-inShape (run .now) (run .past) _ _ _ _ _ _ (g .control) (g .accounts) (g .bounds)
+      invariant-inShape (g .control) (g .accounts) (g .bounds)
 
   claim : Claim (receiptOf (run .now .counts)) run
   claim =
       let g = invariant in
-      demand (run .now) (run .past) _ _ _ _ _ _ (g .control) (g .accounts)
+      demand (g .control) (g .accounts)
 
   complete-claim : CompleteClaim (receiptOf (run .now .counts)) run
   complete-claim =

@@ -7,13 +7,13 @@ use mathlib.Core.Bool.{false}
 use mathlib.Core.List.{List, [], _∷_, _++_}
 use Prim.Native.Nat.{ℕ, zero, suc, _+_, _-_, _≤_, _<_}
 use native.Mathlib.Omega.{arith}
-use lib.ListN.{length, getD, length-append, List·getD-append}
-use lib.Seq.{getD-at, getD-take, length-take-le}
-use Rattle.ring.specs.History.{BegunWriter, Numbered, numbered, nobody, latest, others, allCommitted}
+use lib.ListN.{length, getD, length-append}
+use Rattle.ring.specs.History.{BegunWriter, Numbered, numbered, latest, others, allCommitted}
 use Rattle.ring.proofs.Lists.{by-eq, by-lt}
 use Rattle.ring.proofs.invariant.Accounts.{nthReading, workerAt}
 use Rattle.ring.proofs.invariant.Fates.{Early, Owner, Dropper, Fates}
 use Rattle.ring.proofs.accounts.Readings.{nthReading-before, nthReading-last, length-allCommitted, allCommitted-own}
+use Rattle.ring.proofs.accounts.Working.{begun-length, begun-old, begun-new, latest-at, others-length, others-at}
 
 -- the functions agree below d
 abbrev pub Agree : {A : Type 0} → ℕ → (ℕ → A) → (ℕ → A) → Type 0
@@ -166,10 +166,12 @@ andNew working nth v = working ++ (record { nth = nth; value = v } ∷ [])
 module _ {begins : ℕ} {working : List BegunWriter} {readings : List Numbered} {droppers : List ℕ} {E F : ℕ → ℕ} {depth taken dropped begun : ℕ}
     (k : Fates begins working readings droppers E depth taken dropped begun) (v : ℕ) (same : Agree depth E F) (new : F depth ≡ 1) where
   worker-before : Agree depth (workerAt working) (workerAt (andNew working begins v))
-  worker-before i h = sym (List·getD-append working _ nobody i (omega arith))
+  worker-before i h = sym (begun-old working (k .workingIs) _ i h)
 
   worker-last : (i : ℕ) → depth ≤ i → i < depth + 1 → workerAt (andNew working begins v) i .nth ≡ begins
-  worker-last i lo hi = ap (λ (w : BegunWriter). w .nth) (getD-at working _ [] nobody i (omega arith))
+  worker-last i lo hi =
+      let e : i ≡ depth = omega arith in
+      rw e (ap (λ (w : BegunWriter). w .nth) (begun-new working (k .workingIs) _))
 
   workers-known : (i : ℕ) → i < depth + 1 → workerAt (andNew working begins v) i .nth < begins + 1
   workers-known i h =
@@ -204,7 +206,7 @@ module _ {begins : ℕ} {working : List BegunWriter} {readings : List Numbered} 
         begunIs = omega arith;
         droppedIs = k .droppedIs;
         takenIs = k .takenIs;
-        workingIs = simp length-append (omega arith);
+        workingIs = begun-length working (k .workingIs) _;
         workersKnown = workers-known;
         workersRise = workers-rise;
         ownersKnown = λ m h. omega (arith, k .ownersKnown m h);
@@ -221,7 +223,7 @@ module _ {begins : ℕ} {working : List BegunWriter} {readings : List Numbered} 
 module _ {begins : ℕ} {working : List BegunWriter} {readings : List Numbered} {droppers : List ℕ} {E F : ℕ → ℕ} {depth taken dropped begun : ℕ}
     (k : Fates begins working readings droppers E depth taken dropped begun) (some : 1 ≤ depth) (same : Agree (depth - 1) E F) where
   latest-top : workerAt working (depth - 1) ≡ latest working
-  latest-top = rw (← k .workingIs) refl
+  latest-top = sym (latest-at working (k .workingIs))
 
   latest-known : latest working .nth < begins
   latest-known = rw (← latest-top) (k .workersKnown (depth - 1) (omega arith))
@@ -273,11 +275,8 @@ module _ {begins : ℕ} {working : List BegunWriter} {readings : List Numbered} 
 
   -- ---- its work ends
 
-  length-others : length (others working) ≡ depth - 1
-  length-others = length-take-le (length working - 1) working (omega arith) ∙ omega arith
-
   others-below : Agree (depth - 1) (workerAt working) (workerAt (others working))
-  others-below i h = sym (getD-take (length working - 1) working i nobody (omega arith))
+  others-below i h = sym (others-at working (k .workingIs) i h)
 
   below-others : {writer : ℕ} → Early F (depth - 1) working writer → Early F (depth - 1) (others working) writer
   below-others = early-map (omega arith) (λ i h. refl) others-below
@@ -288,7 +287,7 @@ module _ {begins : ℕ} {working : List BegunWriter} {readings : List Numbered} 
   -- it has its reading
   pub fates-ended : E (depth - 1) ≡ 0 → Fates begins (others working) readings droppers F (depth - 1) taken dropped begun
   fates-ended past =
-      fates-below k (others working) (depth - 1) length-others (omega arith) same others-below
+      fates-below k (others working) (depth - 1) (others-length working (k .workingIs) some) (omega arith) same others-below
       (λ writer y. latest-cases y (λ one e. absurd (omega arith)) below-others)
 
   -- it is before its reservation
@@ -298,7 +297,7 @@ module _ {begins : ℕ} {working : List BegunWriter} {readings : List Numbered} 
         begunIs = k .begunIs;
         droppedIs = omega arith;
         takenIs = k .takenIs;
-        workingIs = length-others;
+        workingIs = others-length working (k .workingIs) some;
         workersKnown = known-below k (others working) (depth - 1) (omega arith) others-below;
         workersRise = rise-below k (others working) (depth - 1) (omega arith) others-below;
         ownersKnown = k .ownersKnown;

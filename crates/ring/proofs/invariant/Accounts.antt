@@ -5,14 +5,13 @@
 use mathlib.Core.Path.{_≡_}
 use mathlib.Core.Logic.{_⊎_}
 use mathlib.Core.List.{List, [], _∷_, _++_}
-use mathlib.Core.Bool.{Bool}
 use Prim.Native.Nat.{ℕ, zero, suc, _+_, _*_, _≤_, _<_}
 use lib.Dec.{ltb}
 use lib.ListN.{length, getD}
 use Rattle.ring.specs.Limits.{mostPages, mostSlots, slotRoom, mostDepth}
 use Rattle.ring.specs.State.{page, usedAt, numberAt}
 use Rattle.ring.specs.History.{BegunWriter, Numbered, Given, Overwriting, Marker, By, History, nobody}
-use Rattle.ring.specs.Demand.{Each, unnumbered, ungiven, RightlyTaken}
+use Rattle.ring.specs.Demand.{All, unnumbered, ungiven, RightlyTaken}
 use Rattle.ring.specs.declared.state.PageNo.{PageNo}
 use Rattle.ring.specs.declared.state.WriterPhase.{WriterPhase}
 use Rattle.ring.specs.declared.state.WriterPhase.the-variants as phase
@@ -178,5 +177,5 @@ pub record Accounts (s : Ring) (h : History) (L : ℕ → ℕ) (pc pt a r0 gap :
   pub ordered : Ordered (h .readings) (s .counts .taken) (s .counts .committed)
   pub work : AtWork (h .marker) (s .stack) (s .depth) (h .working)
   pub balance : s .counts .begun ≡ s .counts .taken + s .counts .dropped + earlies (s .stack) (s .depth)
-  pub rightly : Each RightlyTaken (h .overwritings)
+  pub rightly : All RightlyTaken (h .overwritings)
   pub four : length (s .stack) ≡ mostDepth

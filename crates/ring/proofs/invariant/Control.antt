@@ -6,7 +6,7 @@ use mathlib.Core.Path.{_≡_}
 use mathlib.Core.Logic.{_≢_}
 use mathlib.Core.Bool.{true, false}
 use mathlib.Core.List.{List}
-use Prim.Native.Nat.{ℕ, suc, _+_, _*_, _-_, _≤_, _<_}
+use Prim.Native.Nat.{ℕ, _+_, _*_, _-_, _≤_, _<_}
 use lib.ListN.{length, getD}
 use Rattle.ring.specs.declared.state.WriterPhase.{WriterPhase}
 use Rattle.ring.specs.declared.state.WriterPhase.the-variants as phase
@@ -59,6 +59,10 @@ Owns (phase.Clear t n) p = t .0 ≡ p
 Owns (phase.Push t n) p = ⊥
 Owns (phase.Held q slot) p = ⊥
 Owns phase.Filled p = ⊥
+
+-- it owns none
+abbrev pub Free : WriterPhase → Type 0
+Free ph = (p : ℕ) → ¬ Owns ph p
 
 -- each update mark has one owner
 pub record Owners (words : List ℕ) (N : ℕ) (stack : List Writer) (depth : ℕ) : Type 0 where
@@ -125,12 +129,33 @@ ReaderOk words N R pc (reading.Ready p h) =
 
 -- ---- all of it
 
+abbrev pub RecordIn : Ring → (ℕ → ℕ) → ℕ → ℕ → WriterPhase → Type 0
+RecordIn s L pc pt ph = RecordOk (s .words) (s .used) (N s) (S s) (place (R s) L) pc pt ph
+
+abbrev pub HeadedIn : Ring → (ℕ → ℕ) → Type 0
+HeadedIn s L = Headed (s .words) (N s) (place (R s) L)
+
+abbrev pub HeadlessIn : Ring → (ℕ → ℕ) → ℕ → Type 0
+HeadlessIn s L pc = Headless (s .words) (N s) (place (R s) L) (T s) pc (s .stack) (s .depth)
+
+abbrev pub FlagsIn : Ring → (ℕ → ℕ) → ℕ → Type 0
+FlagsIn s L pc = Flags (s .words) (N s) (place (R s) L) (T s) pc (s .stack) (s .depth)
+
+abbrev pub OwnersIn : Ring → Type 0
+OwnersIn s = Owners (s .words) (N s) (s .stack) (s .depth)
+
+abbrev pub OrderIn : Ring → (ℕ → ℕ) → ℕ → ℕ → Type 0
+OrderIn s L pc pt = Order (s .used) (N s) (S s) (T s) (C s) (place (R s) L) pc pt
+
+abbrev pub ReaderIn : Ring → ℕ → Type 0
+ReaderIn s pc = ReaderOk (s .words) (N s) (R s) pc (s .reader .phase)
+
 pub record Control (s : Ring) (L : ℕ → ℕ) (pc pt : ℕ) : Type 0 where
   pub links : Links (s .words) (N s) (R s) L
-  pub order : Order (s .used) (N s) (S s) (T s) (C s) (place (R s) L) pc pt
+  pub order : OrderIn s L pc pt
   pub joined : pc ≡ 0 → Joined (s .words) (place (R s) L)
-  pub flags : Flags (s .words) (N s) (place (R s) L) (T s) pc (s .stack) (s .depth)
-  pub owners : Owners (s .words) (N s) (s .stack) (s .depth)
+  pub flags : FlagsIn s L pc
+  pub owners : OwnersIn s
   pub depth : s .depth ≤ length (s .stack)
-  pub records : (i : ℕ) → i < s .depth → RecordOk (s .words) (s .used) (N s) (S s) (place (R s) L) pc pt (phaseAt (s .stack) i)
-  pub reader : ReaderOk (s .words) (N s) (R s) pc (s .reader .phase)
+  pub records : (i : ℕ) → i < s .depth → RecordIn s L pc pt (phaseAt (s .stack) i)
+  pub reader : ReaderIn s pc

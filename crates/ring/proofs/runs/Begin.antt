@@ -18,7 +18,7 @@ use Rattle.ring.proofs.accounts.Begin.{begun-accounts}
 use Rattle.ring.proofs.bounds.Steps.{bounds-begin}
 use Rattle.ring.proofs.control.Begin.{begun-control}
 use Rattle.ring.proofs.fates.Steps.{fates-begun}
-use Rattle.ring.proofs.order.Places.{phase-same, phase-other}
+use Rattle.ring.proofs.order.Records.{phase-same, phase-other}
 use Rattle.ring.proofs.runs.Invariant.{Invariant, holds, Next}
 
 module _ (v : ℕ) (s : Ring) (h : History) (g : Invariant s h) where
@@ -27,8 +27,8 @@ module _ (v : ℕ) (s : Ring) (h : History) (g : Invariant s h) where
   begun-next shallow fresh =
       let room : s .depth < length (s .stack) = omega (arith, g .control .depth, g .accounts .four) in
       holds (g .L) (g .pc) (g .pt) (g .a) (g .r0) (g .gap)
-      (begun-control s _ _ _ (g .control) v room)
-      (begun-accounts s h _ _ _ _ _ _ (g .accounts) v room)
+      (begun-control (g .control) v room)
+      (begun-accounts (g .accounts) v room)
       (fates-begun (g .fates) v (λ i hi. sym (ap early (phase-other (s .stack) (s .depth) i _ (omega arith)))) (ap early (phase-same (s .stack) (s .depth) _ room)))
       (bounds-begin s (g .bounds) room fresh v)
 

@@ -15,7 +15,7 @@ use Rattle.ring.specs.SetUp.{freshNext, freshFlag, freshWord, freshWords
 use Rattle.ring.specs.History.{nothing}
 use Rattle.ring.specs.declared.state.Size.{Size}
 use Rattle.ring.specs.declared.state.Ring.{Ring}
-use Rattle.ring.proofs.Lists.{by-eq, by-lt, each, length-tabulate, getD-tabulate}
+use Rattle.ring.proofs.Lists.{by-eq, by-lt, each, length-tabulate, getD-tabulate, zeros}
 use Rattle.ring.proofs.setup.Laws.{freshFlag-most}
 use Rattle.ring.proofs.invariant.Order.{nextOf, flagOf, Cycle, Links, place}
 use Rattle.ring.proofs.invariant.Control.{Headed, headed, Control}
@@ -23,11 +23,6 @@ use Rattle.ring.proofs.invariant.Accounts.{Past, Accounts}
 use Rattle.ring.proofs.invariant.Fates.{FatesOf}
 use Rattle.ring.proofs.bounds.Steps.{bounds-fresh}
 use Rattle.ring.proofs.runs.Invariant.{Invariant, holds}
-
-zeros : (n i : ℕ) → _≡_ {A = ℕ} (getD (replicate n 0) i 0) 0
-zeros zero i = refl
-zeros (suc n) zero = refl
-zeros (suc n) (suc i) = zeros n i
 
 -- ---- the words
 

@@ -8,7 +8,7 @@ use borrow.Author.Tests.{ltb-true, ltb-false, eqb-true, eqb-false}
 use lib.Dec.{ltb}
 use lib.ListN.{getD}
 use Rattle.ring.specs.Limits.{header}
-use Rattle.ring.specs.State.{page, withWords}
+use Rattle.ring.specs.State.{page}
 use Rattle.ring.specs.Words.{readerOnCommit, links, findHeader}
 use Rattle.ring.specs.Shape.{inShape}
 use Rattle.ring.specs.Read.{readLimit, findBy, planIdle, planReady, planReader, fetched, readRule}
@@ -30,7 +30,8 @@ use Rattle.ring.proofs.accounts.Event.{event-accounts}
 use Rattle.ring.proofs.accounts.Phase.{words-accounts, reader-accounts}
 use Rattle.ring.proofs.accounts.Swap.{swapped-accounts}
 use Rattle.ring.proofs.bounds.Steps.{bounds-prepare, bounds-swap}
-use Rattle.ring.proofs.control.Reads.{reader-control, handed-control, found-control, prepared-control}
+use Rattle.ring.proofs.control.Find.{reader-control, handed-control, found-control}
+use Rattle.ring.proofs.control.Prepare.{prepared-control}
 use Rattle.ring.proofs.control.Swap.{swapped-control}
 use Rattle.ring.proofs.order.Search.{Tells, search-tells}
 use Rattle.ring.proofs.runs.Invariant.{Invariant, holds, Next}
@@ -75,14 +76,14 @@ module _ (x : ℕ) (s : Ring) (h : History) (g : Invariant s h) where
   -- ---- IDLE
 
   event-next : s .reader .phase ≡ reading.Idle → s .places .position < readLimit (s .places) (s .used) → After fetch.Event
-  event-next q l = same (handed-control s _ _ _ v) (event-accounts s h _ _ _ _ _ _ v b q (limit-page l) (limit-commit l)) (g .fates) (g .bounds)
+  event-next q l = same (handed-control v) (event-accounts v b q (limit-page l) (limit-commit l)) (g .fates) (g .bounds)
 
   find-next : C s ≢ R s → s .places .position ≡ usedOf s (R s) → (r : Search) → Tells (s .words) (N s) (R s) r → After (findBy r)
   find-next n q (found.At p h0) k =
       let to : h0 .0 ≡ nextOf (s .words) (p .0) = k .3 in
       same
-      (found-control s _ _ _ v n (p .0) (h0 .0) (k .0) (k .1) (k .2) to)
-      (reader-accounts s h _ _ _ _ _ _ b (Found (p .0) (h0 .0)) q)
+      (found-control v n (p .0) (h0 .0) (k .0) (k .1) (k .2) to)
+      (reader-accounts b (Found (p .0) (h0 .0)) q)
       (g .fates)
       (g .bounds)
   find-next n q found.Nowhere k = g
@@ -104,10 +105,10 @@ module _ (x : ℕ) (s : Ring) (h : History) (g : Invariant s h) where
   prepare-next p h0 q =
       let whole = subst (λ (f : ReaderPhase). Quiet f (s .places .position) (usedOf s (R s))) q (b .quiet) in
       same
-      (prepared-control s _ _ _ v p h0 q)
-      (reader-accounts (withWords _ s) h _ _ _ _ _ _ (words-accounts s h _ _ _ _ _ _ b _) (Ready p h0) whole)
+      (prepared-control v p h0 q)
+      (reader-accounts (words-accounts b _) (Ready p h0) whole)
       (g .fates)
-      (bounds-prepare s _ _ _ v (g .bounds) p h0 q)
+      (bounds-prepare v (g .bounds) p h0 q)
 
   -- ---- READY
 
@@ -117,11 +118,11 @@ module _ (x : ℕ) (s : Ring) (h : History) (g : Invariant s h) where
       (λ k.
       let hw = eqb-true (getD (s .words) p 0) (4 * h0 + 1) k in
       holds (swapped (g .L) (R s)) (g .pc - 1) (g .pt - 1) (suc (g .a)) (S s * g .a) 0
-      (swapped-control s _ _ _ v p h0 q hw)
-      (swapped-accounts s h _ _ _ _ _ _ v b p h0 q hw)
+      (swapped-control v p h0 q hw)
+      (swapped-accounts v b p h0 q hw)
       (g .fates)
-      (bounds-swap s _ _ _ v (g .bounds) p h0 q))
-      (λ k. same (reader-control s _ _ _ v reading.Idle tt) (reader-accounts s h _ _ _ _ _ _ b reading.Idle tt) (g .fates) (g .bounds))
+      (bounds-swap v (g .bounds) p h0 q))
+      (λ k. same (reader-control v reading.Idle tt) (reader-accounts b reading.Idle tt) (g .fates) (g .bounds))
 
   -- ---- by the reader's phase
 

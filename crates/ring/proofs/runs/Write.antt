@@ -40,15 +40,15 @@ use Rattle.ring.proofs.bounds.Steps.{bounds-flag, bounds-phase, bounds-
 use Rattle.ring.proofs.control.Clear.{cleared-control}
 use Rattle.ring.proofs.control.Fill.{filled-control}
 use Rattle.ring.proofs.control.Look.{look-reader, look-push, look-mark}
-use Rattle.ring.proofs.control.Mark.{head-of, tl, marked-control}
+use Rattle.ring.proofs.control.Mark.{retry-control, shared-control, marked-control}
+use Rattle.ring.proofs.control.Phase.{head-of, tail-le, top-ok}
 use Rattle.ring.proofs.control.Pop.{pending-control, dropped-control, committed-control}
-use Rattle.ring.proofs.control.Promote.{promoted-control}
+use Rattle.ring.proofs.control.Promote.{standing-control, promoted-control}
+use Rattle.ring.proofs.control.Push.{passed-control, pushed-control}
 use Rattle.ring.proofs.control.Reserve.{reserved-control}
-use Rattle.ring.proofs.control.Stand.{standing-control}
-use Rattle.ring.proofs.control.Top.{top-ok, retry-control, passed-control, shared-control, pushed-control}
-use Rattle.ring.proofs.demand.Shape.{words-fit, tail-fits}
+use Rattle.ring.proofs.demand.Shape.{words-fit}
 use Rattle.ring.proofs.fates.Steps.{fates-same, fates-committed, fates-reserved, fates-ended, fates-dropped}
-use Rattle.ring.proofs.order.Places.{phase-same, phase-other}
+use Rattle.ring.proofs.order.Records.{phase-same, phase-other}
 use Rattle.ring.proofs.order.Search.{Tells, search-tells}
 use Rattle.ring.proofs.runs.Invariant.{Invariant, holds, Next}
 
@@ -87,7 +87,7 @@ module _ (x : ℕ) (s : Ring) (h : History) (g : Invariant s h) (deep : 1 ≤ s 
 
   phase-acc : (ph : WriterPhase) → early (top s .phase) ≡ 1 → early ph ≡ 1 → ((p : ℕ) → Owns ph p → Owns (top s .phase) p)
       → Accounts (setPhase ph s) h (g .L) (g .pc) (g .pt) (g .a) (g .r0) (g .gap)
-  phase-acc = phase-accounts s h (g .L) (g .pc) (g .pt) (g .a) (g .r0) (g .gap) b deep (v .depth)
+  phase-acc = phase-accounts b deep (v .depth)
 
   phase-fates : (ph : WriterPhase) → early (top s .phase) ≡ early ph → FatesOf (setPhase ph s) h (g .droppers)
   phase-fates ph q =
@@ -112,16 +112,16 @@ module _ (x : ℕ) (s : Ring) (h : History) (g : Invariant s h) (deep : 1 ≤ s 
   reserve-next q room =
       let held = rephase (s .stack) (topAt s) (Held (T s) (usedOf s (T s))) in
       same
-      (reserved-control s _ _ _ v deep q room)
-      (reserved-accounts s h _ _ _ _ _ _ v b deep q room)
+      (reserved-control v deep q room)
+      (reserved-accounts v b deep q room)
       (fates-reserved (g .fates) deep (below-top held) (s .counts .taken) (ap early q) (ap early (phase-same (s .stack) (topAt s) held e<len)))
       (bounds-reserve s (g .bounds) deep (v .depth) (s .places .tail) (usedOf s (T s)))
 
   drop-next : top s .phase ≡ phase.Want → After move.Drop
   drop-next q =
       same
-      (dropped-control s _ _ _ v deep q)
-      (dropped-accounts s h _ _ _ _ _ _ b deep (v .depth) q)
+      (dropped-control v deep q)
+      (dropped-accounts b deep (v .depth) q)
       (fates-dropped (g .fates) deep (below-top noWriter) (ap early q))
       (bounds-drop s (g .bounds))
 
@@ -133,7 +133,7 @@ module _ (x : ℕ) (s : Ring) (h : History) (g : Invariant s h) (deep : 1 ≤ s 
       → After (move.Become (Mark (T s) (nextOf (s .words) (T s))) answer.Looked)
   mark-look q u =
       same u (phase-acc (Mark (T s) (nextOf (s .words) (T s))) (ap early q) refl (λ p o. absurd o)) (phase-fates _ (ap early q))
-      (phase-bounds _ (words-fit s h _ _ _ _ _ _ v b (g .bounds) (T s) (tail-fits s h _ _ _ _ _ _ v b (g .bounds))))
+      (phase-bounds _ (words-fit v b (g .bounds) (T s) (tail-le v)))
 
   abbrev n : PageNo
   n = pageIn (wordAt (s .words) (s .places .tail))
@@ -142,20 +142,20 @@ module _ (x : ℕ) (s : Ring) (h : History) (g : Invariant s h) (deep : 1 ≤ s 
   flag = flagIn (wordAt (s .words) (s .places .tail))
 
   tail-flag : flagOf (s .words) (T s) ≤ 2
-  tail-flag = v .owners .small (T s) (tail-fits s h _ _ _ _ _ _ v b (g .bounds))
+  tail-flag = v .owners .small (T s) (tail-le v)
 
   full-next : top s .phase ≡ phase.Want → S s ≤ usedOf s (T s) → After (planFull (s .size) (s .places) n flag)
   full-next q out =
-      by-cond After (samePage (s .places .tail) (s .places .reader)) (λ t. push-look q (look-reader s _ _ _ v deep q out (eqb-true _ _ t))) (λ n1.
+      by-cond After (samePage (s .places .tail) (s .places .reader)) (λ t. push-look q (look-reader v deep q out (eqb-true _ _ t))) (λ n1.
       by-cond After (samePage n (s .places .commit)) (λ t. drop-next q) (λ n2.
       by-cond After (eqb flag header && readerOnCommit (s .places)) (λ t. drop-next q) (λ n3.
       by-cond After (eqb flag header && eqb (s .size .mode) stop) (λ t. drop-next q) (λ n4.
       by-cond After (eqb flag header || eqb flag update)
-      (λ t. mark-look q (look-mark s _ _ _ v deep q out (eqb-false _ _ n2) (λ f. eqb-false _ _ (and-false _ _ n3 (eq-eqb flag header f)))))
+      (λ t. mark-look q (look-mark v deep q out (eqb-false _ _ n2) (λ f. eqb-false _ _ (and-false _ _ n3 (eq-eqb flag header f)))))
       (λ n5.
-      let no = or-false _ _ n5 in
+      let no = or-false (eqb flag header) (eqb flag update) n5 in
       push-look q
-      (look-push s _ _ _ v deep q out (omega (arith, tail-flag, eqb-false flag header (no .0), eqb-false flag update (no .1)))))))))
+      (look-push v deep q out (omega (arith, tail-flag, eqb-false flag header (no .0), eqb-false flag update (no .1)))))))))
 
   -- ---- MARK
 
@@ -170,19 +170,19 @@ module _ (x : ℕ) (s : Ring) (h : History) (g : Invariant s h) (deep : 1 ≤ s 
       (λ k.
       let hw = eqb-true (getD (s .words) t 0) (4 * n + 1) k in
       holds (turn (g .L)) (g .pc - 1) (N s - 1) (suc (g .a)) (g .r0) (g .gap + S s)
-      (marked-control s _ _ _ v deep t n q hw)
-      (marked-accounts s h _ _ _ _ _ _ v b deep t n q hw)
+      (marked-control v deep t n q hw)
+      (marked-accounts v b deep t n q hw)
       (marked-fates t n q)
       (bounds-flag (setPhase (Promote t n true) s) (phase-bounds (Promote t n true) tt) t n 2 (omega arith) (omega arith)))
       (λ k.
       by-cond After (links (s .words) (page t) (page n) update)
       (λ l.
       same
-      (shared-control s _ _ _ v deep t n q (eqb-true _ _ l))
+      (shared-control v deep t n q (eqb-true _ _ l))
       (phase-acc (Promote t n false) (ap early q) refl (λ p o. absurd o))
       (phase-fates _ (ap early q))
       (phase-bounds _ tt))
-      (λ l. same (retry-control s _ _ _ v deep t n q) (phase-acc phase.Want (ap early q) refl (λ p o. absurd o)) (phase-fates _ (ap early q)) (phase-bounds _ tt)))
+      (λ l. same (retry-control v deep t n q) (phase-acc phase.Want (ap early q) refl (λ p o. absurd o)) (phase-fates _ (ap early q)) (phase-bounds _ tt)))
 
   -- ---- PROMOTE
 
@@ -201,11 +201,11 @@ module _ (x : ℕ) (s : Ring) (h : History) (g : Invariant s h) (deep : 1 ≤ s 
 
     promote-by : (r : Search) → Tells (s .words) (N s) (R s) r → After (promoteBy r (page n) then)
     promote-by (found.At p q0) k =
-        same (standing-control s _ _ _ v deep t n own q (head-of (v .flags) (p .0) (k .0) (k .1) (k .2))) after-accounts after-fates after-bounds
+        same (standing-control v deep t n own q (head-of (v .flags) (p .0) (k .0) (k .1) (k .2))) after-accounts after-fates after-bounds
     promote-by found.Nowhere k =
         same
-        (promoted-control s _ _ _ v deep t n own q k)
-        (words-accounts (setPhase then s) h _ _ _ _ _ _ after-accounts _)
+        (promoted-control v deep t n own q k)
+        (words-accounts after-accounts _)
         after-fates
         (bounds-flag (setPhase then s) after-bounds n (nextOf (s .words) n) 1 (omega arith) refl)
 
@@ -217,7 +217,7 @@ module _ (x : ℕ) (s : Ring) (h : History) (g : Invariant s h) (deep : 1 ≤ s 
   -- the mark is still there: only its owner clears it
   clear-word : (t n : ℕ) → top s .phase ≡ Clear t n → getD (s .words) t 0 ≡ 4 * n + 2
   clear-word t n q =
-      let r = top-ok s _ _ _ v deep (Clear t n) q in
+      let r = top-ok v deep (Clear t n) q in
       omega (arith, r .0 .next, r .1)
 
   clear-next : (t n : ℕ) → top s .phase ≡ Clear t n → After (planClear (page t) (page n) (s .words))
@@ -225,8 +225,8 @@ module _ (x : ℕ) (s : Ring) (h : History) (g : Invariant s h) (deep : 1 ≤ s 
       by-cond After (links (s .words) (page t) (page n) update)
       (λ k.
       same
-      (cleared-control s _ _ _ v deep t n q)
-      (words-accounts (setPhase (Push t n) s) h _ _ _ _ _ _ (phase-acc (Push t n) (ap early q) refl (λ p o. absurd o)) _)
+      (cleared-control v deep t n q)
+      (words-accounts (phase-acc (Push t n) (ap early q) refl (λ p o. absurd o)) _)
       (phase-fates (Push t n) (ap early q))
       (bounds-flag (setPhase (Push t n) s) (phase-bounds (Push t n) tt) t n 0 (omega arith) (omega (arith, clear-word t n q))))
       (λ k. absurd (eqb-false _ _ k (clear-word t n q)))
@@ -235,12 +235,12 @@ module _ (x : ℕ) (s : Ring) (h : History) (g : Invariant s h) (deep : 1 ≤ s 
 
   pushed-next : (t n : ℕ) → top s .phase ≡ Push t n → T s ≡ t → After (move.Push (page n))
   pushed-next t n q tl =
-      let u = pushed-control s _ _ _ v deep t n q tl in
-      let o = top-ok s _ _ _ v deep (Push t n) q in
+      let u = pushed-control v deep t n q tl in
+      let o = top-ok v deep (Push t n) q in
       let full : usedOf s (T s) ≡ S s = ap (usedOf s) tl ∙ o .spot .full in
       let empty : usedOf s n ≡ 0 = ap (usedOf s) (sym (u .order .tailAt)) ∙ v .order .empty (suc (g .pt)) (omega arith) (u .order .top) in
       holds (g .L) (g .pc) (suc (g .pt)) (g .a) (g .r0) (g .gap) u
-      (tail-accounts (setPhase phase.Want s) h _ _ _ _ _ _ (phase-acc phase.Want (ap early q) refl (λ p z. absurd z)) n full empty)
+      (tail-accounts (phase-acc phase.Want (ap early q) refl (λ p z. absurd z)) n full empty)
       (phase-fates _ (ap early q))
       (phase-bounds _ tt)
 
@@ -248,13 +248,13 @@ module _ (x : ℕ) (s : Ring) (h : History) (g : Invariant s h) (deep : 1 ≤ s 
   push-next t n q =
       by-cond After (samePage (s .places .tail) (page t))
       (λ k. pushed-next t n q (eqb-true _ _ k))
-      (λ k. same (passed-control s _ _ _ v deep t n q) (phase-acc phase.Want (ap early q) refl (λ p o. absurd o)) (phase-fates _ (ap early q)) (phase-bounds _ tt))
+      (λ k. same (passed-control v deep t n q) (phase-acc phase.Want (ap early q) refl (λ p o. absurd o)) (phase-fates _ (ap early q)) (phase-bounds _ tt))
 
   -- ---- HELD and FILLED
 
   fill-next : (p j : ℕ) → top s .phase ≡ Held p j → After (move.Fill (page p) j)
   fill-next p j q =
-      same (filled-control s _ _ _ v deep p j q) (filled-accounts s h _ _ _ _ _ _ v b deep p j q) (phase-fates phase.Filled (ap early q)) (phase-bounds phase.Filled tt)
+      same (filled-control v deep p j q) (filled-accounts v b deep p j q) (phase-fates phase.Filled (ap early q)) (phase-bounds phase.Filled tt)
 
   filled-next : top s .phase ≡ phase.Filled → After (planFilled (s .depth))
   filled-next q =
@@ -262,14 +262,14 @@ module _ (x : ℕ) (s : Ring) (h : History) (g : Invariant s h) (deep : 1 ≤ s 
       (λ k.
       let one = eqb-true (s .depth) 1 k in
       holds (g .L) (g .pt) (g .pt) (g .a) (g .r0) (g .gap)
-      (committed-control s _ _ _ v deep q one)
-      (committed-accounts s h _ _ _ _ _ _ b deep (v .depth) v q one)
+      (committed-control v deep q one)
+      (committed-accounts b deep (v .depth) v q one)
       (fates-ended (fates-committed (g .fates)) deep (below-top noWriter) (ap early q))
       (bounds-commit s (g .bounds)))
       (λ k.
       same
-      (pending-control s _ _ _ v deep q)
-      (pending-accounts s h _ _ _ _ _ _ b deep (v .depth) q)
+      (pending-control v deep q)
+      (pending-accounts b deep (v .depth) q)
       (fates-ended (g .fates) deep (below-top noWriter) (ap early q))
       (bounds-pop s (g .bounds)))
 
