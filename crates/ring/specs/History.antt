@@ -1,7 +1,7 @@
--- What a list of actions did: a record that grows by each action's answer and the ring just before it. Section "Receipt", from "Demand 3 is one claim about
--- the whole list" on. Nothing in it is read off the ring after the list.
+-- What a list of actions did: a record that grows by each action's value, its answer and the ring just before it. Section "Receipt", from "Demand 3 is one
+-- claim about the whole list" on. Nothing in it is read off the ring after the list.
 -- Assumes nothing.
-use mathlib.Core.Bool.{Bool, true, false, cond}
+use mathlib.Core.Bool.{true, false, cond}
 use mathlib.Core.List.{List, [], _∷_, _++_}
 use Prim.Native.Nat.{ℕ, _+_, _-_}
 use lib.ListN.{length, getD, take}
@@ -9,6 +9,7 @@ use Rattle.ring.specs.State.{top}
 use Rattle.ring.specs.Words.{samePage}
 use Rattle.ring.specs.SetUp.{freshRule}
 use Rattle.ring.specs.Act.{act}
+use Rattle.ring.specs.Remember.{BegunWriter, Numbered, Marker, Unmarked, By, History, begunWriter, numbered, unbegun, withBegins, withWorking, withDroppers, withReadings, withEvents, withOverwritings, withMarker}
 use Rattle.ring.specs.declared.state.PageNo.{PageNo}
 use Rattle.ring.specs.declared.state.WriterPhase.{WriterPhase}
 use Rattle.ring.specs.declared.state.WriterPhase.the-variants as phase
@@ -18,130 +19,11 @@ use Rattle.ring.specs.declared.state.Answer.{Answer}
 use Rattle.ring.specs.declared.state.Answer.the-variants.{Accepted, Begun, Reserved, Looked, Dropped, Marked, Shared, Retry, Promoted, Standing, Cleared, Pushed, Passed, Filled, Committed, Pending, Event, Empty, Found, Busy, Prepared, Swapped, Missed, Refused}
 use Rattle.ring.specs.declared.state.Ring.{Ring}
 
--- ---- what is remembered
-
--- a writer: how many Begins were accepted before its own, and the value in its Begin
-pub record BegunWriter : Type 0 where
-  pub nth : ℕ
-  pub value : ℕ
-
--- "A reading is numbered when a Reserved gave its number: that writer is its own, and its value is the one in that writer's Begin." It is
--- "committed when an answer Committed has come after its Reserved".
-pub record Numbered : Type 0 where
-  pub number : ℕ
-  pub own : BegunWriter
-  pub committed : Bool
-
--- an Event: the number and the value that it gave
-pub record Given : Type 0 where
-  pub number : ℕ
-  pub value : ℕ
-
--- "An overwriting is a Write answered Marked; it takes page n, and the pages are judged as they stand just before it": page n, the ring just before, and the
--- readings numbered by then
-pub record Overwriting : Type 0 where
-  pub page : PageNo
-  pub before : Ring
-  pub readings : List Numbered
-
--- "A Marked makes its writer the writer of that update mark": no writer yet, or the one that begun as nth
-pub data Marker : Type 0 where
-  Nobody : Marker
-  By : ℕ → Marker
-
-pub record History : Type 0 where
-  -- how many Begins were accepted
-  pub begins : ℕ
-  -- the writers at work, the latest begun last
-  pub working : List BegunWriter
-  -- the numbered readings, in the order of their Reserved
-  pub readings : List Numbered
-  -- the Events, in order
-  pub events : List Given
-  -- the Markeds, in order
-  pub overwritings : List Overwriting
-  -- for each page, the writer of the update mark in its word
-  pub marker : PageNo → Marker
-
--- ---- one setter for each part
-
-abbrev pub numbered : ℕ → BegunWriter → Bool → Numbered
-numbered number own committed = record { number = number; own = own; committed = committed }
-
-abbrev pub withBegins : ℕ → History → History
-withBegins x h =
-    record {
-      begins = x;
-      working = h .working;
-      readings = h .readings;
-      events = h .events;
-      overwritings = h .overwritings;
-      marker = h .marker;
-    }
-
-abbrev pub withWorking : List BegunWriter → History → History
-withWorking x h =
-    record {
-      begins = h .begins;
-      working = x;
-      readings = h .readings;
-      events = h .events;
-      overwritings = h .overwritings;
-      marker = h .marker;
-    }
-
-abbrev pub withReadings : List Numbered → History → History
-withReadings x h =
-    record {
-      begins = h .begins;
-      working = h .working;
-      readings = x;
-      events = h .events;
-      overwritings = h .overwritings;
-      marker = h .marker;
-    }
-
-abbrev pub withEvents : List Given → History → History
-withEvents x h =
-    record {
-      begins = h .begins;
-      working = h .working;
-      readings = h .readings;
-      events = x;
-      overwritings = h .overwritings;
-      marker = h .marker;
-    }
-
-abbrev pub withOverwritings : List Overwriting → History → History
-withOverwritings x h =
-    record {
-      begins = h .begins;
-      working = h .working;
-      readings = h .readings;
-      events = h .events;
-      overwritings = x;
-      marker = h .marker;
-    }
-
-abbrev pub withMarker : (PageNo → Marker) → History → History
-withMarker x h =
-    record {
-      begins = h .begins;
-      working = h .working;
-      readings = h .readings;
-      events = h .events;
-      overwritings = h .overwritings;
-      marker = x;
-    }
-
 -- ---- the writers at work
-
-abbrev pub nobody : BegunWriter
-nobody = record { nth = 0; value = 0 }
 
 -- "The answer of a Write that isn't refused belongs to the latest begun writer at work"
 abbrev pub latest : List BegunWriter → BegunWriter
-latest working = getD working (length working - 1) nobody
+latest working = getD working (length working - 1) unbegun
 
 -- the others, once its work has ended
 abbrev pub others : List BegunWriter → List BegunWriter
@@ -151,8 +33,7 @@ others working = take (length working - 1) working
 
 -- "A writer is at work from its Begun on."
 abbrev pub onBegun : ℕ → History → History
-onBegun v h =
-    withBegins (h .begins + 1) (withWorking (h .working ++ (record { nth = h .begins; value = v } ∷ [])) h)
+onBegun v h = withBegins (h .begins + 1) (withWorking (h .working ++ (begunWriter (h .begins) v ∷ [])) h)
 
 -- "A reading is numbered when a Reserved gave its number: that writer is its own"
 abbrev pub onReserved : ℕ → History → History
@@ -162,7 +43,10 @@ onReserved number h = withReadings (h .readings ++ (numbered number (latest (h .
 abbrev pub onEnded : History → History
 onEnded h = withWorking (others (h .working)) h
 
--- every reading numbered so far
+abbrev pub onDropped : History → History
+onDropped h = onEnded (withDroppers (h .droppers ++ (latest (h .working) ∷ [])) h)
+
+-- every reading numbered so far, now committed
 abbrev pub allCommitted : List Numbered → List Numbered
 allCommitted [] = []
 allCommitted (x ∷ rest) = numbered (x .number) (x .own) true ∷ allCommitted rest
@@ -184,10 +68,10 @@ onMark t n r h =
     withOverwritings (h .overwritings ++ (record { page = n; before = r; readings = h .readings } ∷ []))
     (withMarker (markedBy t (By (latest (h .working) .nth)) (h .marker)) h)
 
--- t and n are those of the writer's MARK; no other phase is answered Marked
+-- t and n are those of the writer's MARK. No other phase is answered Marked; one that were would show in the claim, as a loss and a mark that nobody made.
 abbrev pub onMarked : WriterPhase → Ring → History → History
-onMarked phase.Want r h = h
 onMarked (phase.Mark t n) r h = onMark t n r h
+onMarked phase.Want r h = h
 onMarked (phase.Promote t n own) r h = h
 onMarked (phase.Clear t n) r h = h
 onMarked (phase.Push t n) r h = h
@@ -196,12 +80,16 @@ onMarked phase.Filled r h = h
 
 -- the value in the action, the ring just before it, and its answer
 abbrev pub recall : ℕ → Ring → Answer → History → History
-recall v r Accepted h = h
 recall v r (Begun depth) h = onBegun v h
 recall v r (Reserved n) h = onReserved (n .0) h
-recall v r Looked h = h
-recall v r Dropped h = onEnded h
 recall v r Marked h = onMarked (top r .phase) r h
+recall v r (Committed count) h = onCommitted h
+recall v r Pending h = onEnded h
+recall v r Dropped h = onDropped h
+recall v r (Event n x) h = onEvent (n .0) x h
+-- the other answers add nothing
+recall v r Accepted h = h
+recall v r Looked h = h
 recall v r Shared h = h
 recall v r Retry h = h
 recall v r Promoted h = h
@@ -210,9 +98,6 @@ recall v r Cleared h = h
 recall v r Pushed h = h
 recall v r Passed h = h
 recall v r Filled h = h
-recall v r (Committed count) h = onCommitted h
-recall v r Pending h = onEnded h
-recall v r (Event n x) h = onEvent (n .0) x h
 recall v r Empty h = h
 recall v r Found h = h
 recall v r Busy h = h
@@ -235,7 +120,7 @@ pub record Run : Type 0 where
   pub past : History
 
 abbrev pub nothing : History
-nothing = record { begins = 0; working = []; readings = []; events = []; overwritings = []; marker = λ p. Nobody }
+nothing = record { begins = 0; working = []; droppers = []; readings = []; events = []; overwritings = []; marker = λ p. Unmarked }
 
 -- "Each action gets the ring that the last one returned, and nobody else changes it meanwhile."
 abbrev pub next : Run → Action → Run
@@ -250,6 +135,6 @@ abbrev pub after : Run → List Action → Run
 after r [] = r
 after r (a ∷ rest) = after (next r a) rest
 
--- "It starts from the ring that an accepted set-up gives."
+-- "It starts from the ring that an accepted set-up gives": that the set-up is accepted is asked in the claim (specs/Demand)
 abbrev pub runOf : ℕ → ℕ → ℕ → List Action → Run
 runOf pages slots mode actions = after (record { now = freshRule pages slots mode .ring; past = nothing }) actions

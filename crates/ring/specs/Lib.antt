@@ -13,6 +13,7 @@ pub mod Pieces
 pub mod Read
 pub mod Receipt
 pub mod Act
+pub mod Remember
 pub mod History
 pub mod Demand
 pub mod Cases

@@ -8,7 +8,8 @@ use native.Mathlib.Numerals.{add-one}
 use lib.ListN.{length, set, length-set}
 use Rattle.ring.specs.State.{writer}
 use Rattle.ring.specs.Begin.{begin}
-use Rattle.ring.specs.History.{BegunWriter, By, History, onBegun}
+use Rattle.ring.specs.Remember.{BegunWriter, By, History, begunWriter}
+use Rattle.ring.specs.History.{onBegun}
 use Rattle.ring.specs.declared.state.WriterPhase.{WriterPhase}
 use Rattle.ring.specs.declared.state.WriterPhase.the-variants as phase
 use Rattle.ring.specs.declared.state.Writer.{Writer}
@@ -29,7 +30,7 @@ module _ {s : Ring} {h : History} {L : ℕ → ℕ} {pc pt a r0 gap : ℕ} (b : 
   stack' = set (s .stack) (s .depth) new
 
   abbrev working' : List BegunWriter
-  working' = h .working ++ (record { nth = h .begins; value = v } ∷ [])
+  working' = h .working ++ (begunWriter (h .begins) v ∷ [])
 
   abbrev Ok : ℕ → WriterPhase → Type 0
   Ok = HeldOk (s .numbers) (s .used) (S s) (place (R s) L) pc pt (s .counts .committed) (h .readings)

@@ -9,7 +9,8 @@ use lib.ListN.{length, getD, length-append, List·getD-append}
 use lib.Seq.{getD-at}
 use Rattle.ring.specs.State.{numberAt, valueAt}
 use Rattle.ring.specs.Read.{handOut}
-use Rattle.ring.specs.History.{Given, History, onEvent}
+use Rattle.ring.specs.Remember.{Given, History}
+use Rattle.ring.specs.History.{onEvent}
 use Rattle.ring.specs.Demand.{ungiven}
 use Rattle.ring.specs.declared.state.ReaderPhase.{ReaderPhase}
 use Rattle.ring.specs.declared.state.ReaderPhase.the-variants as reading

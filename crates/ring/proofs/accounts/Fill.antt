@@ -8,7 +8,7 @@ use lib.ListN.{getD, set, length-set}
 use lib.Seq.{getD-set-same, getD-set-other}
 use Rattle.ring.specs.State.{page, top}
 use Rattle.ring.specs.Write.{fill}
-use Rattle.ring.specs.History.{History}
+use Rattle.ring.specs.Remember.{History}
 use Rattle.ring.specs.declared.state.WriterPhase.the-variants as phase
 use Rattle.ring.specs.declared.state.Writer.{Writer}
 use Rattle.ring.specs.declared.state.Ring.{Ring}

@@ -10,7 +10,7 @@ use lib.ListN.{length, getD, set}
 use lib.Seq.{getD-set-same, getD-set-other}
 use Rattle.ring.specs.Limits.{mostPages, mostSlots, slotRoom}
 use Rattle.ring.specs.State.{page, sizeOf, noWriter}
-use Rattle.ring.specs.History.{BegunWriter, Numbered, Marker, History}
+use Rattle.ring.specs.Remember.{BegunWriter, Numbered, Marker, History}
 use Rattle.ring.specs.declared.state.PageNo.{PageNo}
 use Rattle.ring.specs.declared.state.WriterPhase.{WriterPhase}
 use Rattle.ring.specs.declared.state.WriterPhase.the-variants as phase

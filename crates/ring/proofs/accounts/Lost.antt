@@ -6,7 +6,7 @@ use Prim.Native.Nat.{ℕ, zero, suc, _+_, _<_}
 use native.Mathlib.Omega.{arith}
 use lib.ListN.{length, getD}
 use Rattle.ring.specs.State.{usedAt, numberAt}
-use Rattle.ring.specs.History.{Overwriting}
+use Rattle.ring.specs.Remember.{Overwriting}
 use Rattle.ring.specs.Demand.{All}
 use Rattle.ring.specs.declared.state.PageNo.{PageNo}
 use Rattle.ring.specs.declared.state.Ring.{Ring}

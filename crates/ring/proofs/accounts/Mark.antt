@@ -12,7 +12,8 @@ use lib.ListN.{length, getD, set, length-set, length-append, List·getD-append}
 use lib.Seq.{getD-set-same, getD-set-other, getD-append-add}
 use Rattle.ring.specs.State.{page, numberAt, top}
 use Rattle.ring.specs.Write.{mark}
-use Rattle.ring.specs.History.{Marker, By, History, latest, markedBy, onMark, onMarked}
+use Rattle.ring.specs.Remember.{Marker, By, History}
+use Rattle.ring.specs.History.{latest, markedBy, onMark, onMarked}
 use Rattle.ring.specs.Demand.{isCommitted, RightlyTaken}
 use Rattle.ring.specs.declared.state.PageNo.{PageNo}
 use Rattle.ring.specs.declared.state.WriterPhase.{WriterPhase}
@@ -246,7 +247,7 @@ module _ {s : Ring} {h : History} {L : ℕ → ℕ} {pc pt a r0 gap : ℕ} (v : 
   rightly =
       record {
         ring = record { page = n-le; apart = λ z. R≢n (sym (page-once z)) };
-        low = 0;
+        lowest = 0;
         there = omega (arith, n-full, b .sizes .some);
         oldest = λ p j rp ne hj.
             let o = ring-place (v .links .cycle) (p .0) (rp .page) (λ z. rp .apart (ap page z)) in

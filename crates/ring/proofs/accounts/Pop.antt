@@ -8,7 +8,8 @@ use borrow.Author.Tests.{lt-ltb}
 use lib.ListN.{length, set, length-set}
 use Rattle.ring.specs.State.{noWriter, top, pop}
 use Rattle.ring.specs.Write.{drop, commit}
-use Rattle.ring.specs.History.{BegunWriter, Numbered, By, History, others, onEnded, allCommitted, onCommitted}
+use Rattle.ring.specs.Remember.{BegunWriter, Numbered, By, History}
+use Rattle.ring.specs.History.{others, onEnded, onDropped, allCommitted, onCommitted}
 use Rattle.ring.specs.declared.state.WriterPhase.{WriterPhase}
 use Rattle.ring.specs.declared.state.WriterPhase.the-variants as phase
 use Rattle.ring.specs.declared.state.Writer.{Writer}
@@ -84,7 +85,7 @@ module _ {s : Ring} {h : History} {L : ℕ → ℕ} {pc pt a r0 gap : ℕ} (b : 
         four = length-set (s .stack) e noWriter ∙ b .four;
       }
 
-  pub dropped-accounts : top s .phase ≡ phase.Want → Accounts (drop s) (onEnded h) L pc pt a r0 gap
+  pub dropped-accounts : top s .phase ≡ phase.Want → Accounts (drop s) (onDropped h) L pc pt a r0 gap
   dropped-accounts q =
       record {
         sizes = b .sizes;

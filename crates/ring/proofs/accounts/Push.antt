@@ -4,7 +4,7 @@ use mathlib.Core.Path.{_≡_}
 use Prim.Native.Nat.{ℕ, suc}
 use native.Mathlib.Omega.{arith}
 use Rattle.ring.specs.State.{page, withTail}
-use Rattle.ring.specs.History.{History}
+use Rattle.ring.specs.Remember.{History}
 use Rattle.ring.specs.declared.state.Ring.{Ring}
 use Rattle.ring.proofs.invariant.Order.{S, R, T, usedOf, phaseAt, storedAt, place}
 use Rattle.ring.proofs.invariant.Accounts.{Accounts}

@@ -7,7 +7,8 @@ use Prim.Native.Nat.{ℕ, zero, suc, _<_}
 use native.Mathlib.Omega.{arith}
 use lib.ListN.{length, List·getD-append}
 use lib.Seq.{getD-at}
-use Rattle.ring.specs.History.{Numbered, allCommitted}
+use Rattle.ring.specs.Remember.{Numbered}
+use Rattle.ring.specs.History.{allCommitted}
 use Rattle.ring.specs.Demand.{unnumbered}
 use Rattle.ring.proofs.invariant.Accounts.{nthReading}
 

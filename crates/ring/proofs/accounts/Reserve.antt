@@ -11,7 +11,8 @@ use lib.ListN.{length, getD, set, length-set, length-append}
 use lib.Seq.{getD-set-same, getD-set-other}
 use Rattle.ring.specs.State.{top}
 use Rattle.ring.specs.Write.{reserve}
-use Rattle.ring.specs.History.{BegunWriter, Numbered, History, numbered, latest, onReserved}
+use Rattle.ring.specs.Remember.{BegunWriter, Numbered, History, numbered}
+use Rattle.ring.specs.History.{latest, onReserved}
 use Rattle.ring.specs.declared.state.WriterPhase.{WriterPhase}
 use Rattle.ring.specs.declared.state.WriterPhase.the-variants as phase
 use Rattle.ring.specs.declared.state.Writer.{Writer}

@@ -6,7 +6,8 @@ use Prim.Native.Nat.{ℕ, _+_, _-_, _≤_, _<_}
 use native.Mathlib.Omega.{arith}
 use lib.ListN.{length, length-append, List·getD-append}
 use lib.Seq.{getD-at, getD-take, length-take-le}
-use Rattle.ring.specs.History.{BegunWriter, nobody, latest, others}
+use Rattle.ring.specs.Remember.{BegunWriter, unbegun}
+use Rattle.ring.specs.History.{latest, others}
 use Rattle.ring.proofs.invariant.Accounts.{workerAt}
 
 module _ (working : List BegunWriter) {depth : ℕ} (many : length working ≡ depth) where
@@ -16,10 +17,10 @@ module _ (working : List BegunWriter) {depth : ℕ} (many : length working ≡ d
   begun-length new = length-append working (new ∷ []) ∙ omega arith
 
   pub begun-old : (new : BegunWriter) (i : ℕ) → i < depth → workerAt (working ++ (new ∷ [])) i ≡ workerAt working i
-  begun-old new i h = List·getD-append working (new ∷ []) nobody i (omega arith)
+  begun-old new i h = List·getD-append working (new ∷ []) unbegun i (omega arith)
 
   pub begun-new : (new : BegunWriter) → workerAt (working ++ (new ∷ [])) depth ≡ new
-  begun-new new = getD-at working new [] nobody depth many
+  begun-new new = getD-at working new [] unbegun depth many
 
   -- ---- the latest and the others
 
@@ -30,4 +31,4 @@ module _ (working : List BegunWriter) {depth : ℕ} (many : length working ≡ d
   others-length some = length-take-le (length working - 1) working (omega arith) ∙ omega arith
 
   pub others-at : (i : ℕ) → i < depth - 1 → workerAt (others working) i ≡ workerAt working i
-  others-at i h = getD-take (length working - 1) working i nobody (omega arith)
+  others-at i h = getD-take (length working - 1) working i unbegun (omega arith)

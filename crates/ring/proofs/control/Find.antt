@@ -6,7 +6,6 @@ use Prim.Native.Nat.{ℕ, _≤_}
 use native.Mathlib.Omega.{arith}
 use Rattle.ring.specs.State.{withReaderPhase}
 use Rattle.ring.specs.Read.{handOut}
-use Rattle.ring.specs.History.{next}
 use Rattle.ring.specs.declared.state.ReaderPhase.{ReaderPhase}
 use Rattle.ring.specs.declared.state.Ring.{Ring}
 use Rattle.ring.proofs.invariant.Order.{N, R, C, nextOf, flagOf, Found, place}

@@ -6,7 +6,6 @@ use mathlib.Core.List.{List}
 use Prim.Native.Nat.{ℕ, _≤_, _<_}
 use native.Mathlib.Omega.{arith}
 use lib.ListN.{set, length-set}
-use Rattle.ring.specs.Lists.{at}
 use Rattle.ring.specs.State.{noWriter, top, pop}
 use Rattle.ring.specs.Write.{drop, commit}
 use Rattle.ring.specs.declared.state.WriterPhase.{WriterPhase}

@@ -4,21 +4,23 @@ use mathlib.Core.Path.{sym, _∙_}
 use Prim.Native.Nat.{ℕ}
 use native.Mathlib.Omega.{arith}
 use Rattle.ring.specs.Receipt.{receiptOf}
-use Rattle.ring.specs.History.{History}
+use Rattle.ring.specs.Remember.{History}
 use Rattle.ring.specs.Demand.{Claim}
 use Rattle.ring.specs.declared.state.Ring.{Ring}
 use Rattle.ring.proofs.invariant.Control.{Control}
 use Rattle.ring.proofs.invariant.Accounts.{Accounts}
+use Rattle.ring.proofs.invariant.Fates.{FatesOf}
 use Rattle.ring.proofs.demand.Counts.{given-numbered, handed-count, overwritten-count, open-count, waiting-count, sum}
 use Rattle.ring.proofs.demand.Events.{given-value, given-rising, handed-once}
 use Rattle.ring.proofs.demand.Marks.{visits, marks}
 use Rattle.ring.proofs.demand.Places.{open-from, settled-committed, one-place}
 use Rattle.ring.proofs.demand.Readings.{own-at, numbered-below, numbered-once}
 
-pub demand : {s : Ring} {h : History} {L : ℕ → ℕ} {pc pt a r0 gap : ℕ} → Control s L pc pt → Accounts s h L pc pt a r0 gap
+pub demand : {s : Ring} {h : History} {L : ℕ → ℕ} {pc pt a r0 gap : ℕ} → Control s L pc pt → Accounts s h L pc pt a r0 gap → FatesOf s h
     → Claim (receiptOf (s .counts)) (record { now = s; past = h })
-demand v b =
+demand v b f =
     record {
+      working = b .work .many;
       numberedOnce = numbered-once (b .ordered);
       numberedBelow = numbered-below (b .ordered);
       onePlace = one-place v b;
@@ -30,9 +32,11 @@ demand v b =
       waitingCount = waiting-count v b;
       openCount = open-count v b;
       sum = sum v b;
+      begunCount = sym (f .begunIs);
+      droppedCount = sym (f .droppedIs);
       rising = λ m n j k x y lt. given-rising (b .past) x y lt;
       above = λ m n o x. omega (arith, open-from v b o, settled-committed v b x);
-      taken = b .rightly;
+      oldestTaken = b .rightly;
       visits = visits v;
       marks = marks v b;
     }

@@ -1,4 +1,4 @@
--- The receipt says complete exactly when every reading begun has been handed out. Each writer has one fate: while begun = handed nobody was dropped and nobody is before its
+-- The receipt says complete exactly when every reading begun has been handed out. Each writer has one fate: while begun = handed unbegun was dropped and unbegun is before its
 -- reservation, so each is the own writer of a reading, and each reading was handed out; and the other way round.
 -- Assumes nothing.
 use mathlib.Core.Path.{_≡_, refl, sym, _∙_}
@@ -7,9 +7,9 @@ use mathlib.Core.List.{List}
 use Prim.Native.Nat.{ℕ, zero, suc, _+_, _≤_, _<_}
 use native.Mathlib.Omega.{arith}
 use borrow.Author.Tests.{eqb-true, eq-eqb}
-use lib.ListN.{getD}
 use Rattle.ring.specs.Receipt.{receiptOf}
-use Rattle.ring.specs.History.{History, Run}
+use Rattle.ring.specs.Remember.{History}
+use Rattle.ring.specs.History.{Run}
 use Rattle.ring.specs.Demand.{HandedOut, Claim, GivenOf, AllGiven, CompleteClaim}
 use Rattle.ring.specs.declared.state.WriterPhase.{WriterPhase}
 use Rattle.ring.specs.declared.state.WriterPhase.the-variants as phase
@@ -46,7 +46,7 @@ earlies-none stack (suc depth) never =
     let rest = earlies-none stack depth (λ i l. never i (omega arith)) in
     ⊎-elim (λ z. omega arith) (λ one. absurd (never depth (omega arith) one)) (early-two (phaseAt stack depth))
 
-module _ (s : Ring) (h : History) (droppers : List ℕ) (k : FatesOf s h droppers) (o : Ordered (h .readings) (s .counts .taken) (s .counts .committed))
+module _ (s : Ring) (h : History) (k : FatesOf s h) (o : Ordered (h .readings) (s .counts .taken) (s .counts .committed))
     (balance : s .counts .begun ≡ s .counts .taken + s .counts .dropped + earlies (s .stack) (s .depth))
     (claim : Claim (receiptOf (s .counts)) (record { now = s; past = h })) where
   abbrev run : Run
@@ -58,13 +58,13 @@ module _ (s : Ring) (h : History) (droppers : List ℕ) (k : FatesOf s h dropper
   -- ---- begun = handed: each reading begun was handed out
 
   module _ (equal : s .counts .begun ≡ s .counts .handed) where
-    no-dropper : (writer : ℕ) → ¬ Dropper droppers writer
+    no-dropper : (writer : ℕ) → ¬ Dropper (h .droppers) writer
     no-dropper writer d = omega (arith, count-le (claim .handedCount), k .droppedIs, d .below)
 
     no-early : (writer : ℕ) → ¬ EarlyNow writer
     no-early writer y = omega (arith, count-le (claim .handedCount), earlies-some (s .stack) (s .depth) (y .i) (y .below) (y .before))
 
-    all-handed : (m : ℕ) → m < s .counts .taken → HandedOut (h .events) m
+    all-handed : (m : ℕ) → m < s .counts .taken → HandedOut run m
     all-handed = count-all (claim .handedCount) (omega (arith, count-le (claim .handedCount)))
 
     owner-given : (writer : ℕ) → Owner (h .readings) (s .counts .taken) writer → GivenOf run writer
@@ -89,13 +89,13 @@ module _ (s : Ring) (h : History) (droppers : List ℕ) (k : FatesOf s h dropper
         let g = all writer known in
         record { number = g .reserved; below = omega (arith, g .numbered .below, o .size); is = g .own }
 
-    not-dropped : (writer : ℕ) → ¬ Dropper droppers writer
+    not-dropped : (writer : ℕ) → ¬ Dropper (h .droppers) writer
     not-dropped writer d = k .droppersFree writer d (owned writer (k .droppersKnown writer d))
 
     none-dropped : s .counts .dropped ≡ 0
     none-dropped =
         by-eq (s .counts .dropped) 0 (λ e. e)
-        (λ n. absurd (not-dropped (getD droppers 0 0) (record { k = 0; below = omega (arith, k .droppedIs); is = refl })))
+        (λ n. absurd (not-dropped (workerAt (h .droppers) 0 .nth) (record { k = 0; below = omega (arith, k .droppedIs); is = refl })))
 
     none-early : earlies (s .stack) (s .depth) ≡ 0
     none-early =
@@ -104,7 +104,7 @@ module _ (s : Ring) (h : History) (droppers : List ℕ) (k : FatesOf s h dropper
         let writer = workerAt (h .working) i .nth in
         k .earlyFree writer (record { i = i; below = l; before = e; is = refl }) (owned writer (k .workersKnown i l)))
 
-    each-handed : (m : ℕ) → m < s .counts .taken → HandedOut (h .events) m
+    each-handed : (m : ℕ) → m < s .counts .taken → HandedOut run m
     each-handed m l =
         let g = all (nthReading (h .readings) m .own .nth) (k .ownersKnown m l) in
         let below : g .reserved < s .counts .taken = omega (arith, g .numbered .below, o .size) in
@@ -118,7 +118,6 @@ module _ (s : Ring) (h : History) (droppers : List ℕ) (k : FatesOf s h dropper
   pub complete : CompleteClaim (receiptOf (s .counts)) run
   complete =
       record {
-        begins = sym (k .begunIs);
         says = λ e. all-given (eqb-true (s .counts .begun) (s .counts .handed) e);
         only = λ all. eq-eqb (s .counts .begun) (s .counts .handed) (equal-counts all);
       }

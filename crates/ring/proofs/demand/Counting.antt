@@ -4,7 +4,6 @@ use mathlib.Core.Path.{_≡_, refl, sym, ap, subst}
 use mathlib.Core.Logic.{_≢_}
 use Prim.Native.Nat.{ℕ, zero, suc, _+_, _-_, _≤_, _<_}
 use native.Mathlib.Omega.{arith}
-use Rattle.ring.specs.Lists.{all}
 use Rattle.ring.specs.Demand.{ExactlyOne, onlyFirst, onlySecond, onlyThird, onlyFourth, Count, start, counted, skipped}
 use Rattle.ring.proofs.Lists.{by-eq, by-lt}
 

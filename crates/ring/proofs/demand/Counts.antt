@@ -5,7 +5,7 @@ use Prim.Native.Nat.{ℕ, _+_, _≤_, _<_}
 use native.Mathlib.Omega.{arith}
 use lib.ListN.{length, getD}
 use Rattle.ring.specs.Receipt.{waiting, uncommitted}
-use Rattle.ring.specs.History.{History}
+use Rattle.ring.specs.Remember.{History}
 use Rattle.ring.specs.Demand.{onlyFirst, onlySecond, onlyThird, onlyFourth, Count, EventAt, HandedOut, Overwritten, NotCommitted, Waiting}
 use Rattle.ring.specs.declared.state.Ring.{Ring}
 use Rattle.ring.proofs.invariant.Control.{Control}
@@ -22,7 +22,7 @@ module _ {s : Ring} {h : History} {L : ℕ → ℕ} {pc pt a r0 gap : ℕ} (v : 
   pub given-numbered : {m k : ℕ} → EventAt (h .events) m k → m < s .counts .taken
   given-numbered {k = k} x = omega (arith, handed-committed v b (record { nth = k; event = x }), committed-taken v b)
 
-  pub handed-count : Count (HandedOut (h .events)) (s .counts .taken) (s .counts .handed)
+  pub handed-count : Count (HandedOut (runAt s h)) (s .counts .taken) (s .counts .handed)
   handed-count =
       rw (← b .past .handedIs)
       (count-map
@@ -41,7 +41,7 @@ module _ {s : Ring} {h : History} {L : ℕ → ℕ} {pc pt a r0 gap : ℕ} (v : 
       let x = lost-out (h .overwritings) (lostNumber k) (record { nth = k; below = lt; is = refl }) in
       omega (arith, lost-committed v b x, committed-taken v b)
 
-  pub overwritten-count : Count (Overwritten (h .overwritings)) (s .counts .taken) (s .counts .overwritten)
+  pub overwritten-count : Count (Overwritten (runAt s h)) (s .counts .taken) (s .counts .overwritten)
   overwritten-count =
       rw (← b .past .overwrittenIs)
       (count-map
@@ -62,7 +62,7 @@ module _ {s : Ring} {h : History} {L : ℕ → ℕ} {pc pt a r0 gap : ℕ} (v : 
 
   -- ---- waiting
 
-  abbrev four : Parts (HandedOut (h .events)) (Overwritten (h .overwritings)) (Waiting (runAt s h)) (NotCommitted (runAt s h)) (s .counts .taken)
+  abbrev four : Parts (HandedOut (runAt s h)) (Overwritten (runAt s h)) (Waiting (runAt s h)) (NotCommitted (runAt s h)) (s .counts .taken)
   four = parts (s .counts .taken) (one-place v b)
 
   four-sum : s .counts .taken ≡ s .counts .handed + s .counts .overwritten + four .c + uncommitted (s .counts)

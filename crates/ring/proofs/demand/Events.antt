@@ -4,17 +4,17 @@ use mathlib.Core.Path.{_≡_, ap, _∙_}
 use mathlib.Core.List.{List}
 use Prim.Native.Nat.{ℕ, _+_, _<_}
 use native.Mathlib.Omega.{arith}
-use Rattle.ring.specs.History.{Numbered, Given}
-use Rattle.ring.specs.Demand.{One, EventAt, HandedOut}
+use Rattle.ring.specs.Remember.{Numbered, Given}
+use Rattle.ring.specs.Demand.{One, EventAt, GivenIn}
 use Rattle.ring.proofs.Lists.{by-lt}
 use Rattle.ring.proofs.invariant.Accounts.{valueOf, givenValue, Handed, Past}
 
 -- ---- the statement's record and the invariant's
 
-pub handed-in : {events : List Given} {m : ℕ} → HandedOut events m → Handed events m
+pub handed-in : {events : List Given} {m : ℕ} → GivenIn events m → Handed events m
 handed-in k = record { nth = k .nth; below = k .event .below; is = k .event .gave }
 
-pub handed-out : {events : List Given} {m : ℕ} → Handed events m → HandedOut events m
+pub handed-out : {events : List Given} {m : ℕ} → Handed events m → GivenIn events m
 handed-out k = record { nth = k .nth; event = record { below = k .below; gave = k .is } }
 
 -- ---- what an Event gave
@@ -36,5 +36,5 @@ module _ {events : List Given} {lost : List ℕ} {readings : List Numbered} {han
       (λ lt. absurd (omega (arith, given-rising x y lt)))
       (λ le. by-lt k j (λ lt. absurd (omega (arith, given-rising y x lt))) (λ ge. omega arith))
 
-  pub handed-once : {m : ℕ} → HandedOut events m → One (EventAt events m)
+  pub handed-once : {m : ℕ} → GivenIn events m → One (EventAt events m)
   handed-once x = record { it = x .nth; has = x .event; alone = λ k y. given-once y (x .event) }

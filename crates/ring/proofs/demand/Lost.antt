@@ -8,8 +8,8 @@ use native.Mathlib.Omega.{arith}
 use lib.ListN.{length, getD, length-append, List·getD-append}
 use lib.Seq.{getD-append-add}
 use Rattle.ring.specs.State.{usedAt, numberAt}
-use Rattle.ring.specs.History.{Overwriting}
-use Rattle.ring.specs.Demand.{Lay, Overwritten}
+use Rattle.ring.specs.Remember.{Overwriting}
+use Rattle.ring.specs.Demand.{Some, LayBelow}
 use Rattle.ring.proofs.Lists.{by-lt}
 use Rattle.ring.proofs.invariant.Accounts.{numbersOn, lostOf, Lost}
 use Rattle.ring.proofs.accounts.Lost.{numbersOn-length, numbersOn-at}
@@ -44,20 +44,20 @@ module _ (o : Overwriting) where
   takes-at : (j : ℕ) → j < usedAt (o .before .used) (o .page) → getD (takes o) j 0 ≡ numberAt (o .before) (o .page) j
   takes-at j lt = numbersOn-at (o .before) (o .page) 0 (usedAt (o .before .used) (o .page)) j lt ∙ ap (numberAt (o .before) (o .page)) (omega arith)
 
-  lay-lost : {m : ℕ} → Lay m o → Lost (takes o) m
+  lay-lost : {m : ℕ} → LayBelow m o → Lost (takes o) m
   lay-lost k = record { nth = k .slot; below = rw takes-length (k .below); is = takes-at (k .slot) (k .below) ∙ k .number }
 
-  lost-lay : {m : ℕ} → Lost (takes o) m → Lay m o
+  lost-lay : {m : ℕ} → Lost (takes o) m → LayBelow m o
   lost-lay k =
       let lt : k .nth < usedAt (o .before .used) (o .page) = rw takes-length at (k .below) in
       record { slot = k .nth; below = lt; number = sym (takes-at (k .nth) lt) ∙ k .is }
 
 -- ---- all of them
 
-pub lost-in : (os : List Overwriting) (m : ℕ) → Overwritten os m → Lost (lostOf os) m
+pub lost-in : (os : List Overwriting) (m : ℕ) → Some (LayBelow m) os → Lost (lostOf os) m
 lost-in [] m k = absurd k
 lost-in (o ∷ rest) m k = ⊎-elim (λ l. lost-left (lostOf rest) (lay-lost o l)) (λ l. lost-right (takes o) (lost-in rest m l)) k
 
-pub lost-out : (os : List Overwriting) (m : ℕ) → Lost (lostOf os) m → Overwritten os m
+pub lost-out : (os : List Overwriting) (m : ℕ) → Lost (lostOf os) m → Some (LayBelow m) os
 lost-out [] m k = absurd (omega arith)
 lost-out (o ∷ rest) m k = ⊎-elim (λ l. inl (lost-lay o l)) (λ l. inr (lost-out rest m l)) (lost-parts (takes o) (lostOf rest) m k)

@@ -7,7 +7,7 @@ use Prim.Native.Nat.{ℕ, zero, suc, _-_, _≤_, _<_}
 use native.Mathlib.Omega.{arith}
 use lib.ListN.{length, getD}
 use Rattle.ring.specs.State.{page}
-use Rattle.ring.specs.History.{By, History, nobody}
+use Rattle.ring.specs.Remember.{By, History, unbegun}
 use Rattle.ring.specs.Demand.{Some, RingPage, moves, Visits, OneHeader, NoHeader}
 use Rattle.ring.specs.declared.state.PageNo.{PageNo}
 use Rattle.ring.specs.declared.state.Ring.{Ring}
@@ -75,7 +75,7 @@ module _ {s : Ring} {L : ℕ → ℕ} {pc pt : ℕ} (v : Control s L pc pt) wher
     -- the writer of a mark that a record owns is at work
     owner-works : (i p : ℕ) → i < s .depth → Owns (phaseAt (s .stack) i) p → Some (λ w. h .marker (page p) ≡ By (w .nth)) (h .working)
     owner-works i p lt o =
-        some-at (λ w. h .marker (page p) ≡ By (w .nth)) (h .working) i nobody (omega (arith, b .work .many)) (b .work .marks i p lt o)
+        some-at (λ w. h .marker (page p) ≡ By (w .nth)) (h .working) i unbegun (omega (arith, b .work .many)) (b .work .marks i p lt o)
 
     no-header : Headless (s .words) (N s) (place (R s) L) (T s) pc (s .stack) (s .depth) → NoHeader (runAt s h)
     no-header f =

@@ -6,8 +6,9 @@ use Prim.Native.Nat.{ℕ, _+_, _≤_, _<_}
 use native.Mathlib.Omega.{arith}
 use borrow.Author.Tests.{ltb-true, ltb-false, lt-ltb, le-ltb}
 use Rattle.ring.specs.State.{page, valueAt}
-use Rattle.ring.specs.History.{History, Run}
-use Rattle.ring.specs.Demand.{ExactlyOne, onlyFirst, onlySecond, onlyThird, onlyFourth, ownValue, HandedOut, Overwritten, Lies, NotCommitted, Waiting}
+use Rattle.ring.specs.Remember.{History}
+use Rattle.ring.specs.History.{Run}
+use Rattle.ring.specs.Demand.{ExactlyOne, onlyFirst, onlySecond, onlyThird, onlyFourth, ownValue, HandedOut, Overwritten, LiesAt, NotCommitted, Waiting}
 use Rattle.ring.specs.declared.state.PageNo.{PageNo}
 use Rattle.ring.specs.declared.state.Ring.{Ring}
 use Rattle.ring.proofs.Lists.{by-eq, by-lt}
@@ -25,7 +26,7 @@ abbrev pub runAt : Ring → History → Run
 runAt s h = record { now = s; past = h }
 
 abbrev pub Placed : Ring → History → ℕ → Type 0
-Placed s h m = ExactlyOne (HandedOut (h .events) m) (Overwritten (h .overwritings) m) (Waiting (runAt s h) m) (NotCommitted (runAt s h) m)
+Placed s h m = ExactlyOne (HandedOut (runAt s h) m) (Overwritten (runAt s h) m) (Waiting (runAt s h) m) (NotCommitted (runAt s h) m)
 
 module _ {s : Ring} {h : History} {L : ℕ → ℕ} {pc pt a r0 gap : ℕ} (v : Control s L pc pt) (b : Accounts s h L pc pt a r0 gap) where
   -- ---- what was read, what is committed, what was taken
@@ -41,23 +42,23 @@ module _ {s : Ring} {h : History} {L : ℕ → ℕ} {pc pt a r0 gap : ℕ} (v : 
 
   -- ---- which numbers are in a place
 
-  handed-low : {m : ℕ} → HandedOut (h .events) m → m < r0 + s .places .position
+  handed-low : {m : ℕ} → HandedOut (runAt s h) m → m < r0 + s .places .position
   handed-low x = given-low (b .past) (x .event)
 
-  pub handed-committed : {m : ℕ} → HandedOut (h .events) m → m < s .counts .committed
+  pub handed-committed : {m : ℕ} → HandedOut (runAt s h) m → m < s .counts .committed
   handed-committed x = omega (arith, handed-low x, read-committed)
 
-  lost-low : {m : ℕ} → Overwritten (h .overwritings) m → m < r0 + usedOf s (R s) + gap
+  lost-low : {m : ℕ} → Overwritten (runAt s h) m → m < r0 + usedOf s (R s) + gap
   lost-low {m} x =
       let l = lost-in (h .overwritings) m x in
       omega (arith, b .past .lostLow (l .nth) (l .below))
 
-  lost-apart : {m : ℕ} → Overwritten (h .overwritings) m → m < r0 + s .places .position ⊎ r0 + usedOf s (R s) ≤ m
+  lost-apart : {m : ℕ} → Overwritten (runAt s h) m → m < r0 + s .places .position ⊎ r0 + usedOf s (R s) ≤ m
   lost-apart {m} x =
       let l = lost-in (h .overwritings) m x in
       rw (l .is) at (b .past .lostApart (l .nth) (l .below))
 
-  pub lost-committed : {m : ℕ} → Overwritten (h .overwritings) m → m < s .counts .committed
+  pub lost-committed : {m : ℕ} → Overwritten (runAt s h) m → m < s .counts .committed
   lost-committed x = ⊎-elim (λ lt. omega (arith, read-committed)) (λ le. gap-committed le (lost-low x)) (lost-apart x)
 
   pub waiting-committed : {m : ℕ} → Waiting (runAt s h) m → m < s .counts .committed
@@ -67,7 +68,7 @@ module _ {s : Ring} {h : History} {L : ℕ → ℕ} {pc pt a r0 gap : ℕ} (v : 
   open-from {m} o = ltb-false m (s .counts .committed) (sym (committed-at (b .ordered) m (lies-below v b (o .slot .has))) ∙ o .uncommitted)
 
   -- whatever is handed out, overwritten or waiting is committed
-  pub settled-committed : {m : ℕ} → HandedOut (h .events) m ⊎ (Overwritten (h .overwritings) m ⊎ Waiting (runAt s h) m) → m < s .counts .committed
+  pub settled-committed : {m : ℕ} → HandedOut (runAt s h) m ⊎ (Overwritten (runAt s h) m ⊎ Waiting (runAt s h) m) → m < s .counts .committed
   settled-committed x = ⊎-elim handed-committed (λ y. ⊎-elim lost-committed waiting-committed y) x
 
   -- a number that was read, or one of the gap, is not waiting
@@ -83,11 +84,11 @@ module _ {s : Ring} {h : History} {L : ℕ → ℕ} {pc pt a r0 gap : ℕ} (v : 
 
   -- ---- a number in a slot that is still to be read: waiting, if it is committed, and else not yet committed
 
-  own-stored : {m j : ℕ} {p : PageNo} → Lies s m p j → m < s .counts .committed → valueAt s p j ≡ ownValue (h .readings) m
+  own-stored : {m j : ℕ} {p : PageNo} → LiesAt s m p j → m < s .counts .committed → valueAt s p j ≡ ownValue (h .readings) m
   own-stored {m} {j} {p} l lt =
       stored-own (b .values) (p .0) j (l .page) (l .below) (rw (l .number) lt) ∙ ap (valueOf (h .readings)) (l .number) ∙ sym (own-at (b .ordered) m (lies-below v b l))
 
-  waits : {m j : ℕ} {p : PageNo} → Lies s m p j → (p ≡ s .places .reader → s .places .position ≤ j) → m < s .counts .committed → Waiting (runAt s h) m
+  waits : {m j : ℕ} {p : PageNo} → LiesAt s m p j → (p ≡ s .places .reader → s .places .position ≤ j) → m < s .counts .committed → Waiting (runAt s h) m
   waits {m} {j} {p} l unread lt =
       record {
         committed = committed-at (b .ordered) m (lies-below v b l) ∙ lt-ltb m (s .counts .committed) lt;
@@ -99,15 +100,15 @@ module _ {s : Ring} {h : History} {L : ℕ → ℕ} {pc pt a r0 gap : ℕ} (v : 
         };
       }
 
-  opens : {m j : ℕ} {p : PageNo} → Lies s m p j → s .counts .committed ≤ m → NotCommitted (runAt s h) m
+  opens : {m j : ℕ} {p : PageNo} → LiesAt s m p j → s .counts .committed ≤ m → NotCommitted (runAt s h) m
   opens {m} {j} {p} l le =
       record {
         uncommitted = committed-at (b .ordered) m (lies-below v b l) ∙ le-ltb m (s .counts .committed) le;
         slot = record { page = p; slot = j; has = l; alone = λ q k x. lies-once v b x l };
       }
 
-  placed-unread : {m j : ℕ} {p : PageNo} → Lies s m p j → (p ≡ s .places .reader → s .places .position ≤ j)
-      → ¬ HandedOut (h .events) m → ¬ Overwritten (h .overwritings) m → Placed s h m
+  placed-unread : {m j : ℕ} {p : PageNo} → LiesAt s m p j → (p ≡ s .places .reader → s .places .position ≤ j)
+      → ¬ HandedOut (runAt s h) m → ¬ Overwritten (runAt s h) m → Placed s h m
   placed-unread {m} l unread notHanded notLost =
       by-lt m (s .counts .committed)
       (λ lt. onlyThird notHanded notLost (waits l unread lt) (λ o. omega (arith, open-from o)))

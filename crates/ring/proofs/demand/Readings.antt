@@ -7,7 +7,7 @@ use native.Mathlib.Omega.{arith}
 use borrow.Author.Tests.{eq-eqb, ne-eqb}
 use lib.Dec.{ltb}
 use lib.ListN.{length}
-use Rattle.ring.specs.History.{Numbered}
+use Rattle.ring.specs.Remember.{Numbered}
 use Rattle.ring.specs.Demand.{One, readingOf, ownValue, isCommitted, ReservedAt}
 use Rattle.ring.proofs.invariant.Accounts.{nthReading, valueOf, Ordered}
 

@@ -2,6 +2,7 @@
 -- rule that may apply; so an action is refused only by its verdict, whose tests are those of the list.
 -- Assumes nothing.
 use mathlib.Core.Path.{_≡_, refl}
+use mathlib.Core.Logic.{_≢_}
 use mathlib.Core.Bool.{true, _&&_, _||_}
 use Prim.Native.Nat.{ℕ}
 use lib.Dec.{eqb, ltb}
@@ -91,5 +92,14 @@ module _ (s : Ring) where
     refusals action.Write = by-bool (eqb (s .depth) 0) (λ d. rw (fits, d)) (λ d. rw (fits, d) write-not-refused)
     refusals action.Read = rw fits read-not-refused
 
+    -- a refused action gives the same ring back
+    same-ring : (a : Action) → listed s a ≢ 0 → act s a .ring ≡ s
+    same-ring (action.Begin v) =
+        by-bool (eqb (s .depth) mostDepth)
+        (λ d. rw (fits, d) (λ n. refl))
+        (λ d. by-bool (eqb (s .counts .begun) mostCount) (λ w. rw (fits, d, w) (λ n. refl)) (λ w. rw (fits, d, w) (λ n. absurd (n refl))))
+    same-ring action.Write = by-bool (eqb (s .depth) 0) (λ d. rw (fits, d) (λ n. refl)) (λ d. rw (fits, d) (λ n. absurd (n refl)))
+    same-ring action.Read = λ n. absurd (n refl)
+
     pub sound : Sound s
-    sound = record { shape = fits; refusals = refusals; receipt = rw fits }
+    sound = record { shape = fits; refusals = refusals; same = same-ring; receipt = rw fits }

@@ -8,7 +8,7 @@ use borrow.Author.Tests.{lt-ltb, le-leb, ne-eqb}
 use lib.ListN.{getD}
 use Rattle.ring.specs.Limits.{leastPages, mostPages, leastSlots, mostSlots, mostDepth, mostCount, stop, bothFlags}
 use Rattle.ring.specs.Shape.{sizeTests, sizeFits, placeTests, placesFit, smallTests, countsSmall, agreeTests, countsAgree, pageTests, pagesFit, heldTests, heldFits, writerFits, readerFits, recordFitsAt, stackFits, wordFitsAt, wordsFit, usedFitsAt, usedFit, numberFits, numbersFit, layoutTests, layoutFits, inShape}
-use Rattle.ring.specs.History.{History}
+use Rattle.ring.specs.Remember.{History}
 use Rattle.ring.specs.declared.state.PageNo.{PageNo}
 use Rattle.ring.specs.declared.state.WriterPhase.{WriterPhase}
 use Rattle.ring.specs.declared.state.WriterPhase.the-variants as phase

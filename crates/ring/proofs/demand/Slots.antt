@@ -7,8 +7,8 @@ use Prim.Native.Nat.{ℕ, suc, _+_, _-_, _*_, _/_, _%_, _≤_, _<_}
 use native.Mathlib.Omega.{arith}
 use native.Mathlib.Nat.{mul-le-mul-left, div-add-mod, mod-lt, le-div-iff-mul-le}
 use Rattle.ring.specs.State.{page, numberAt}
-use Rattle.ring.specs.History.{History}
-use Rattle.ring.specs.Demand.{Lies}
+use Rattle.ring.specs.Remember.{History}
+use Rattle.ring.specs.Demand.{LiesAt}
 use Rattle.ring.specs.declared.state.PageNo.{PageNo}
 use Rattle.ring.specs.declared.state.Ring.{Ring}
 use Rattle.ring.proofs.Lists.{by-eq, by-lt}
@@ -18,25 +18,25 @@ use Rattle.ring.proofs.invariant.Accounts.{Accounts}
 use Rattle.ring.proofs.accounts.Laws.{split-once}
 
 module _ {s : Ring} {h : History} {L : ℕ → ℕ} {pc pt a r0 gap : ℕ} (v : Control s L pc pt) (b : Accounts s h L pc pt a r0 gap) where
-  pub lies-below : {m j : ℕ} {p : PageNo} → Lies s m p j → m < s .counts .taken
+  pub lies-below : {m j : ℕ} {p : PageNo} → LiesAt s m p j → m < s .counts .taken
   lies-below {j = j} {p = p} l = rw (l .number) at (b .numbers .below (p .0) j (l .page) (l .below))
 
   -- ---- the number in a slot
 
-  pub reader-number : {m j : ℕ} {p : PageNo} → Lies s m p j → p .0 ≡ R s → (j < usedOf s (R s)) × (m ≡ r0 + j)
+  pub reader-number : {m j : ℕ} {p : PageNo} → LiesAt s m p j → p .0 ≡ R s → (j < usedOf s (R s)) × (m ≡ r0 + j)
   reader-number {j = j} l e =
       let lt : j < usedOf s (R s) = rw e at (l .below) in
       (lt, sym (l .number) ∙ ap (λ (q : ℕ). numberAt s (page q) j) e ∙ b .numbers .reader j lt)
 
   -- of a ring page
-  ring-number : {m j : ℕ} {p : PageNo} → Lies s m p j → p .0 ≢ R s → (i : ℕ) × (L i ≡ p .0) × (m ≡ S s * (a + i) + j)
+  ring-number : {m j : ℕ} {p : PageNo} → LiesAt s m p j → p .0 ≢ R s → (i : ℕ) × (L i ≡ p .0) × (m ≡ S s * (a + i) + j)
   ring-number {m} {j} {p} l n =
       let o = v .links .cycle .onto (p .0) (l .page) n in
       let lt : j < usedOf s (L (o .0)) = rw (o .2) (l .below) in
       let e : numberAt s (page (L (o .0))) j ≡ m = rw (o .2) (l .number) in
       (o .0, o .2, omega (arith, b .numbers .slot (suc (o .0)) j (omega arith) (o .1) lt))
 
-  pub ring-from : {m j : ℕ} {p : PageNo} → Lies s m p j → p .0 ≢ R s → S s * a ≤ m
+  pub ring-from : {m j : ℕ} {p : PageNo} → LiesAt s m p j → p .0 ≢ R s → S s * a ≤ m
   ring-from l n = omega (arith, ring-number l n .2)
 
   -- the ring's numbers start after the reader page's and the gap
@@ -49,20 +49,20 @@ module _ {s : Ring} {h : History} {L : ℕ → ℕ} {pc pt a r0 gap : ℕ} (v : 
   -- ---- in one slot only
 
   -- a number of the reader page is none of the ring's
-  apart : {m j k : ℕ} {p q : PageNo} → Lies s m p j → Lies s m q k → p .0 ≡ R s → ¬ (q .0 ≢ R s)
+  apart : {m j k : ℕ} {p q : PageNo} → LiesAt s m p j → LiesAt s m q k → p .0 ≡ R s → ¬ (q .0 ≢ R s)
   apart l o e n = omega (arith, reader-number l e, ring-from o n, ring-after)
 
-  slot-low : {m j : ℕ} {p : PageNo} → Lies s m p j → j < S s
+  slot-low : {m j : ℕ} {p : PageNo} → LiesAt s m p j → j < S s
   slot-low {p = p} l = omega (arith, b .sizes .cap (p .0) (l .page))
 
-  ring-once : {m j k : ℕ} {p q : PageNo} → Lies s m p j → Lies s m q k → p .0 ≢ R s → q .0 ≢ R s → (p ≡ q) × (j ≡ k)
+  ring-once : {m j k : ℕ} {p q : PageNo} → LiesAt s m p j → LiesAt s m q k → p .0 ≢ R s → q .0 ≢ R s → (p ≡ q) × (j ≡ k)
   ring-once {j = j} {k = k} l o pr qr =
       let x = ring-number l pr in
       let y = ring-number o qr in
       let e = split-once (S s) (a + x .0) (a + y .0) j k (slot-low l) (slot-low o) (sym (x .2) ∙ y .2) in
       (ap page (sym (x .1) ∙ ap L (omega (arith, e .0)) ∙ y .1), e .1)
 
-  pub lies-once : {m j k : ℕ} {p q : PageNo} → Lies s m p j → Lies s m q k → (p ≡ q) × (j ≡ k)
+  pub lies-once : {m j k : ℕ} {p q : PageNo} → LiesAt s m p j → LiesAt s m q k → (p ≡ q) × (j ≡ k)
   lies-once {p = p} {q = q} l o =
       by-eq (p .0) (R s)
       (λ e. by-eq (q .0) (R s)
@@ -74,7 +74,7 @@ module _ {s : Ring} {h : History} {L : ℕ → ℕ} {pc pt a r0 gap : ℕ} (v : 
 
   -- ---- a number of the reader page
 
-  pub in-reader : (m : ℕ) → r0 ≤ m → m < r0 + usedOf s (R s) → Lies s m (s .places .reader) (m - r0)
+  pub in-reader : (m : ℕ) → r0 ≤ m → m < r0 + usedOf s (R s) → LiesAt s m (s .places .reader) (m - r0)
   in-reader m lo hi =
       record { page = v .links .cycle .reader; below = omega arith; number = b .numbers .reader (m - r0) (omega arith) ∙ omega arith }
 
@@ -96,7 +96,7 @@ module _ {s : Ring} {h : History} {L : ℕ → ℕ} {pc pt a r0 gap : ℕ} (v : 
       (λ e. omega (arith, tail-used (suc i) e, b .sums .takenIs, ap (λ (k : ℕ). S s * (a + k)) e))
       (λ n. omega (arith, v .order .full (suc i) (omega arith) (omega (arith, to-tail i j lt))))
 
-  in-page : (i j : ℕ) → j < S s → S s * (a + i) + j < s .counts .taken → Lies s (S s * (a + i) + j) (page (L i)) j
+  in-page : (i j : ℕ) → j < S s → S s * (a + i) + j < s .counts .taken → LiesAt s (S s * (a + i) + j) (page (L i)) j
   in-page i j hj lt =
       let u = slot-used i j hj lt in
       record {
@@ -120,7 +120,7 @@ module _ {s : Ring} {h : History} {L : ℕ → ℕ} {pc pt a r0 gap : ℕ} (v : 
       let from : a ≤ m / S s = le-div-iff-mul-le (b .sizes .some) .1 (omega arith) in
       ap (λ (q : ℕ). S s * q + m % S s) (omega arith) ∙ div-add-mod m (S s)
 
-  pub in-ring : (m : ℕ) → r0 + usedOf s (R s) + gap ≤ m → m < s .counts .taken → (p : PageNo) × (j : ℕ) × (p .0 ≢ R s) × Lies s m p j
+  pub in-ring : (m : ℕ) → r0 + usedOf s (R s) + gap ≤ m → m < s .counts .taken → (p : PageNo) × (j : ℕ) × (p .0 ≢ R s) × LiesAt s m p j
   in-ring m lo hi =
       let e = split m (past-gap m lo hi) in
       let l = in-page (m / S s - a) (m % S s) (mod-lt m (b .sizes .some)) (rw e hi) in

@@ -5,10 +5,12 @@ use mathlib.Core.Path.{_≡_, refl, sym, ap, _∙_}
 use mathlib.Core.Logic.{_⊎_, inl, inr, ⊎-elim}
 use mathlib.Core.Bool.{false}
 use mathlib.Core.List.{List, [], _∷_, _++_}
-use Prim.Native.Nat.{ℕ, zero, suc, _+_, _-_, _≤_, _<_}
+use Prim.Native.Nat.{ℕ, _+_, _-_, _≤_, _<_}
 use native.Mathlib.Omega.{arith}
-use lib.ListN.{length, getD, length-append}
-use Rattle.ring.specs.History.{BegunWriter, Numbered, numbered, latest, others, allCommitted}
+use lib.ListN.{length, length-append, List·getD-append}
+use lib.Seq.{getD-at, getD-append-seam}
+use Rattle.ring.specs.Remember.{BegunWriter, Numbered, begunWriter, numbered, unbegun}
+use Rattle.ring.specs.History.{latest, others, allCommitted}
 use Rattle.ring.proofs.Lists.{by-eq, by-lt}
 use Rattle.ring.proofs.invariant.Accounts.{nthReading, workerAt}
 use Rattle.ring.proofs.invariant.Fates.{Early, Owner, Dropper, Fates}
@@ -92,22 +94,39 @@ committed-owner rs o = record { number = o .number; below = o .below; is = sym (
 
 -- ---- one dropper more
 
-dropper-more : {ds : List ℕ} {x writer : ℕ} → Dropper ds writer → Dropper (x ∷ ds) writer
-dropper-more o = record { k = suc (o .k); below = omega arith; is = o .is }
+module _ (droppers : List BegunWriter) (x : BegunWriter) where
+  dropper-more : {writer : ℕ} → Dropper droppers writer → Dropper (droppers ++ (x ∷ [])) writer
+  dropper-more o =
+      record {
+        k = o .k;
+        below = simp length-append (omega arith);
+        is = ap (λ (w : BegunWriter). w .nth) (List·getD-append droppers (x ∷ []) unbegun (o .k) (o .below)) ∙ o .is;
+      }
 
-dropper-cases : {P : Type 0} {ds : List ℕ} {x writer : ℕ} → Dropper (x ∷ ds) writer → (x ≡ writer → P) → (Dropper ds writer → P) → P
-dropper-cases {P} {ds} {x} {writer} o new old = nth (o .k) (o .below) (o .is)
-  where
-    nth : (k : ℕ) → k < length (x ∷ ds) → getD (x ∷ ds) k 0 ≡ writer → P
-    nth zero h e = new e
-    nth (suc k) h e = old (record { k = k; below = omega arith; is = e })
+  dropper-new : Dropper (droppers ++ (x ∷ [])) (x .nth)
+  dropper-new =
+      record {
+        k = length droppers;
+        below = simp length-append (omega arith);
+        is = ap (λ (w : BegunWriter). w .nth) (getD-append-seam droppers x [] unbegun);
+      }
+
+  dropper-cases : {P : Type 0} {writer : ℕ} → Dropper (droppers ++ (x ∷ [])) writer → (x .nth ≡ writer → P) → (Dropper droppers writer → P) → P
+  dropper-cases o new old =
+      by-lt (o .k) (length droppers)
+      (λ lt.
+      let same = List·getD-append droppers (x ∷ []) unbegun (o .k) lt in
+      old (record { k = o .k; below = lt; is = ap (λ (w : BegunWriter). w .nth) (sym same) ∙ o .is }))
+      (λ ge.
+      let size : length droppers ≡ o .k = omega (arith, length-append droppers (x ∷ []), o .below) in
+      new (ap (λ (w : BegunWriter). w .nth) (sym (getD-at droppers x [] unbegun (o .k) size)) ∙ o .is))
 
 -- ---- no writer begins
 
 by-fate : {P A B C : Type 0} → (A → P) → (B → P) → (C → P) → A ⊎ (B ⊎ C) → P
 by-fate owner dropper waiter f = ⊎-elim owner (λ g. ⊎-elim dropper waiter g) f
 
-module _ {begins : ℕ} {working : List BegunWriter} {readings : List Numbered} {droppers : List ℕ} {E : ℕ → ℕ} {depth taken dropped begun : ℕ}
+module _ {begins : ℕ} {working : List BegunWriter} {readings : List Numbered} {droppers : List BegunWriter} {E : ℕ → ℕ} {depth taken dropped begun : ℕ}
     (k : Fates begins working readings droppers E depth taken dropped begun) where
   -- the places below e keep their writers
   known-below : (vs : List BegunWriter) (e : ℕ) → e ≤ depth → Agree e (workerAt working) (workerAt vs) → (i : ℕ) → i < e → workerAt vs i .nth < begins
@@ -116,7 +135,7 @@ module _ {begins : ℕ} {working : List BegunWriter} {readings : List Numbered} 
   rise-below : (vs : List BegunWriter) (e : ℕ) → e ≤ depth → Agree e (workerAt working) (workerAt vs) → (i j : ℕ) → i < j → j < e → workerAt vs i .nth < workerAt vs j .nth
   rise-below vs e le workers i j h l = rw (← workers i (omega arith), ← workers j l) (k .workersRise i j h (omega arith))
 
-  -- and nobody before a reservation is left out
+  -- and unbegun before a reservation is left out
   fates-below : {F : ℕ → ℕ} (vs : List BegunWriter) (e : ℕ) → length vs ≡ e → e ≤ depth → Agree e E F → Agree e (workerAt working) (workerAt vs)
       → ((writer : ℕ) → Early E depth working writer → Early F e vs writer) → Fates begins vs readings droppers F e taken dropped begun
   fates-below {F} vs e size le records workers stay =
@@ -161,9 +180,9 @@ module _ {begins : ℕ} {working : List BegunWriter} {readings : List Numbered} 
 -- ---- a writer begins
 
 abbrev andNew : List BegunWriter → ℕ → ℕ → List BegunWriter
-andNew working nth v = working ++ (record { nth = nth; value = v } ∷ [])
+andNew working nth v = working ++ (begunWriter nth v ∷ [])
 
-module _ {begins : ℕ} {working : List BegunWriter} {readings : List Numbered} {droppers : List ℕ} {E F : ℕ → ℕ} {depth taken dropped begun : ℕ}
+module _ {begins : ℕ} {working : List BegunWriter} {readings : List Numbered} {droppers : List BegunWriter} {E F : ℕ → ℕ} {depth taken dropped begun : ℕ}
     (k : Fates begins working readings droppers E depth taken dropped begun) (v : ℕ) (same : Agree depth E F) (new : F depth ≡ 1) where
   worker-before : Agree depth (workerAt working) (workerAt (andNew working begins v))
   worker-before i h = sym (begun-old working (k .workingIs) _ i h)
@@ -200,7 +219,7 @@ module _ {begins : ℕ} {working : List BegunWriter} {readings : List Numbered} 
       (λ e. inr (inr (rw (← e) begun-early)))
       (λ n. by-fate inl (λ o. inr (inl o)) (λ y. inr (inr (early-map (omega arith) same worker-before y))) (k .fate writer (omega arith)))
 
-  pub fates-begun : Fates (begins + 1) (working ++ (record { nth = begins; value = v } ∷ [])) readings droppers F (depth + 1) taken dropped (begun + 1)
+  pub fates-begun : Fates (begins + 1) (working ++ (begunWriter begins v ∷ [])) readings droppers F (depth + 1) taken dropped (begun + 1)
   fates-begun =
       record {
         begunIs = omega arith;
@@ -220,7 +239,7 @@ module _ {begins : ℕ} {working : List BegunWriter} {readings : List Numbered} 
 
 -- ---- the latest writer, the top record's
 
-module _ {begins : ℕ} {working : List BegunWriter} {readings : List Numbered} {droppers : List ℕ} {E F : ℕ → ℕ} {depth taken dropped begun : ℕ}
+module _ {begins : ℕ} {working : List BegunWriter} {readings : List Numbered} {droppers : List BegunWriter} {E F : ℕ → ℕ} {depth taken dropped begun : ℕ}
     (k : Fates begins working readings droppers E depth taken dropped begun) (some : 1 ≤ depth) (same : Agree (depth - 1) E F) where
   latest-top : workerAt working (depth - 1) ≡ latest working
   latest-top = sym (latest-at working (k .workingIs))
@@ -291,25 +310,25 @@ module _ {begins : ℕ} {working : List BegunWriter} {readings : List Numbered} 
       (λ writer y. latest-cases y (λ one e. absurd (omega arith)) below-others)
 
   -- it is before its reservation
-  pub fates-dropped : E (depth - 1) ≡ 1 → Fates begins (others working) readings (latest working .nth ∷ droppers) F (depth - 1) taken (dropped + 1) begun
+  pub fates-dropped : E (depth - 1) ≡ 1 → Fates begins (others working) readings (droppers ++ (latest working ∷ [])) F (depth - 1) taken (dropped + 1) begun
   fates-dropped one =
       record {
         begunIs = k .begunIs;
-        droppedIs = omega arith;
+        droppedIs = simp length-append (omega (arith, k .droppedIs));
         takenIs = k .takenIs;
         workingIs = others-length working (k .workingIs) some;
         workersKnown = known-below k (others working) (depth - 1) (omega arith) others-below;
         workersRise = rise-below k (others working) (depth - 1) (omega arith) others-below;
         ownersKnown = k .ownersKnown;
         ownersOnce = k .ownersOnce;
-        droppersKnown = λ writer o. dropper-cases o (λ e. rw (← e) latest-known) (k .droppersKnown writer);
-        droppersFree = λ writer o. dropper-cases o (λ e. rw (← e) (k .earlyFree (latest working .nth) (latest-early one))) (k .droppersFree writer);
+        droppersKnown = λ writer o. dropper-cases droppers (latest working) o (λ e. rw (← e) latest-known) (k .droppersKnown writer);
+        droppersFree = λ writer o. dropper-cases droppers (latest working) o (λ e. rw (← e) (k .earlyFree (latest working .nth) (latest-early one))) (k .droppersFree writer);
         earlyFree = λ writer y. k .earlyFree writer (below-early (others-early y));
         droppersEnded = λ writer o y.
             let z = others-early y in
-            dropper-cases o (λ e. omega (arith, below-lower z)) (λ old. k .droppersEnded writer old (below-early z));
+            dropper-cases droppers (latest working) o (λ e. omega (arith, below-lower z)) (λ old. k .droppersEnded writer old (below-early z));
         fate = λ writer h.
-            by-fate inl (λ o. inr (inl (dropper-more o)))
-            (λ y. latest-cases y (λ was e. inr (inl (record { k = 0; below = omega arith; is = e }))) (λ z. inr (inr (below-others z))))
+            by-fate inl (λ o. inr (inl (dropper-more droppers (latest working) o)))
+            (λ y. latest-cases y (λ was e. inr (inl (rw (← e) (dropper-new droppers (latest working))))) (λ z. inr (inr (below-others z))))
             (k .fate writer h);
       }

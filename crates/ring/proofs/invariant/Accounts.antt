@@ -10,7 +10,7 @@ use lib.Dec.{ltb}
 use lib.ListN.{length, getD}
 use Rattle.ring.specs.Limits.{mostPages, mostSlots, slotRoom, mostDepth}
 use Rattle.ring.specs.State.{page, usedAt, numberAt}
-use Rattle.ring.specs.History.{BegunWriter, Numbered, Given, Overwriting, Marker, By, History, nobody}
+use Rattle.ring.specs.Remember.{BegunWriter, Numbered, Given, Overwriting, Marker, By, History, unbegun}
 use Rattle.ring.specs.Demand.{All, unnumbered, ungiven, RightlyTaken}
 use Rattle.ring.specs.declared.state.PageNo.{PageNo}
 use Rattle.ring.specs.declared.state.WriterPhase.{WriterPhase}
@@ -156,7 +156,7 @@ pub record Past (events : List Given) (lost : List ℕ) (readings : List Numbere
 
 -- the i-th writer at work
 abbrev pub workerAt : List BegunWriter → ℕ → BegunWriter
-workerAt working i = getD working i nobody
+workerAt working i = getD working i unbegun
 
 -- the writers at work are the records, bottom first; each owner's update mark is its writer's
 pub record AtWork (marker : PageNo → Marker) (stack : List Writer) (depth : ℕ) (working : List BegunWriter) : Type 0 where

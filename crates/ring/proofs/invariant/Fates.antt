@@ -5,11 +5,11 @@ use mathlib.Core.Path.{_≡_}
 use mathlib.Core.Logic.{_⊎_}
 use mathlib.Core.List.{List}
 use Prim.Native.Nat.{ℕ, _<_}
-use lib.ListN.{length, getD}
-use Rattle.ring.specs.History.{BegunWriter, Numbered, History}
+use lib.ListN.{length}
+use Rattle.ring.specs.Remember.{BegunWriter, Numbered, History}
 use Rattle.ring.specs.declared.state.Ring.{Ring}
 use Rattle.ring.proofs.invariant.Order.{phaseAt}
-use Rattle.ring.proofs.invariant.Accounts.{nthReading, workerAt, early}
+use Rattle.ring.proofs.invariant.Accounts.{nthReading, early, workerAt}
 
 -- the writer is at work and before its reservation
 pub record Early (E : ℕ → ℕ) (depth : ℕ) (working : List BegunWriter) (writer : ℕ) : Type 0 where
@@ -25,12 +25,12 @@ pub record Owner (readings : List Numbered) (taken writer : ℕ) : Type 0 where
   pub is : nthReading readings number .own .nth ≡ writer
 
 -- it was dropped
-pub record Dropper (droppers : List ℕ) (writer : ℕ) : Type 0 where
+pub record Dropper (droppers : List BegunWriter) (writer : ℕ) : Type 0 where
   pub k : ℕ
   pub below : k < length droppers
-  pub is : getD droppers k 0 ≡ writer
+  pub is : workerAt droppers k .nth ≡ writer
 
-pub record Fates (begins : ℕ) (working : List BegunWriter) (readings : List Numbered) (droppers : List ℕ) (E : ℕ → ℕ) (depth taken dropped begun : ℕ) : Type 0 where
+pub record Fates (begins : ℕ) (working : List BegunWriter) (readings : List Numbered) (droppers : List BegunWriter) (E : ℕ → ℕ) (depth taken dropped begun : ℕ) : Type 0 where
   pub begunIs : begins ≡ begun
   pub droppedIs : length droppers ≡ dropped
   pub takenIs : length readings ≡ taken
@@ -45,7 +45,7 @@ pub record Fates (begins : ℕ) (working : List BegunWriter) (readings : List Nu
   pub droppersEnded : (writer : ℕ) → Dropper droppers writer → ¬ Early E depth working writer
   pub fate : (writer : ℕ) → writer < begins → Owner readings taken writer ⊎ (Dropper droppers writer ⊎ Early E depth working writer)
 
--- of a ring and a history; the droppers are the writers whose work ended by Dropped
-abbrev pub FatesOf : Ring → History → List ℕ → Type 0
-FatesOf s h droppers =
-    Fates (h .begins) (h .working) (h .readings) droppers (λ i. early (phaseAt (s .stack) i)) (s .depth) (s .counts .taken) (s .counts .dropped) (s .counts .begun)
+-- of a ring and a history
+abbrev pub FatesOf : Ring → History → Type 0
+FatesOf s h =
+    Fates (h .begins) (h .working) (h .readings) (h .droppers) (λ i. early (phaseAt (s .stack) i)) (s .depth) (s .counts .taken) (s .counts .dropped) (s .counts .begun)

@@ -5,12 +5,12 @@ use mathlib.Core.Bool.{true}
 use mathlib.Core.List.{List, [], _∷_}
 use Prim.Native.Nat.{ℕ}
 use native.Mathlib.Omega.{arith}
-use Rattle.ring.specs.Lists.{at}
 use Rattle.ring.specs.State.{sizeOf}
 use Rattle.ring.specs.Shape.{sizeFits}
 use Rattle.ring.specs.SetUp.{freshRing, freshRule}
 use Rattle.ring.specs.Act.{act}
-use Rattle.ring.specs.History.{History, valueIn, Run, nothing, next, after, runOf}
+use Rattle.ring.specs.Remember.{History}
+use Rattle.ring.specs.History.{valueIn, Run, nothing, next, after, runOf}
 use Rattle.ring.specs.declared.state.Refusal.the-variants as refusal
 use Rattle.ring.specs.declared.state.Answer.the-variants as answer
 use Rattle.ring.specs.declared.state.Action.{Action}

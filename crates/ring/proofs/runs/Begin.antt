@@ -10,7 +10,7 @@ use lib.ListN.{length}
 use Rattle.ring.specs.Limits.{mostDepth, mostCount}
 use Rattle.ring.specs.Shape.{inShape}
 use Rattle.ring.specs.Begin.{begin, beginRule}
-use Rattle.ring.specs.History.{History}
+use Rattle.ring.specs.Remember.{History}
 use Rattle.ring.specs.declared.state.Ring.{Ring}
 use Rattle.ring.proofs.Lists.{by-bool}
 use Rattle.ring.proofs.invariant.Accounts.{early}

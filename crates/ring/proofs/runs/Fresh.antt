@@ -223,7 +223,7 @@ module _ (size : Size) (fits : sizeFits size ≡ true) where
         four = refl;
       }
 
-  fresh-fates : FatesOf s nothing []
+  fresh-fates : FatesOf s nothing
   fresh-fates =
       record {
         begunIs = refl;

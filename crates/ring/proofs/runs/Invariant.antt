@@ -1,9 +1,9 @@
 -- The whole invariant of a ring and a history: its four parts over the same witnesses.
 -- Assumes nothing.
-use mathlib.Core.List.{List}
 use Prim.Native.Nat.{ℕ}
 use Rattle.ring.specs.Answers.{Outcome}
-use Rattle.ring.specs.History.{History, recall}
+use Rattle.ring.specs.Remember.{History}
+use Rattle.ring.specs.History.{recall}
 use Rattle.ring.specs.declared.state.Ring.{Ring}
 use Rattle.ring.proofs.invariant.Control.{Control}
 use Rattle.ring.proofs.invariant.Accounts.{Accounts}
@@ -19,16 +19,14 @@ pub record Invariant (s : Ring) (h : History) : Type 0 where
   pub a : ℕ
   pub r0 : ℕ
   pub gap : ℕ
-  -- the writers whose work ended by Dropped
-  pub droppers : List ℕ
   pub control : Control s L pc pt
   pub accounts : Accounts s h L pc pt a r0 gap
-  pub fates : FatesOf s h droppers
+  pub fates : FatesOf s h
   pub bounds : BoundsOf s
 
-pub holds : {s : Ring} {h : History} {droppers : List ℕ} (L : ℕ → ℕ) (pc pt a r0 gap : ℕ) → Control s L pc pt → Accounts s h L pc pt a r0 gap → FatesOf s h droppers
+pub holds : {s : Ring} {h : History} (L : ℕ → ℕ) (pc pt a r0 gap : ℕ) → Control s L pc pt → Accounts s h L pc pt a r0 gap → FatesOf s h
     → BoundsOf s → Invariant s h
-holds {droppers = droppers} L pc pt a r0 gap v b f k =
+holds L pc pt a r0 gap v b f k =
     record {
       L = L;
       pc = pc;
@@ -36,7 +34,6 @@ holds {droppers = droppers} L pc pt a r0 gap v b f k =
       a = a;
       r0 = r0;
       gap = gap;
-      droppers = droppers;
       control = v;
       accounts = b;
       fates = f;

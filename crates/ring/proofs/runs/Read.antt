@@ -12,7 +12,7 @@ use Rattle.ring.specs.State.{page}
 use Rattle.ring.specs.Words.{readerOnCommit, links, findHeader}
 use Rattle.ring.specs.Shape.{inShape}
 use Rattle.ring.specs.Read.{readLimit, findBy, planIdle, planReady, planReader, fetched, readRule}
-use Rattle.ring.specs.History.{History}
+use Rattle.ring.specs.Remember.{History}
 use Rattle.ring.specs.declared.state.ReaderPhase.{ReaderPhase}
 use Rattle.ring.specs.declared.state.ReaderPhase.the-variants as reading
 use Rattle.ring.specs.declared.state.Ring.{Ring}
@@ -49,7 +49,7 @@ module _ (x : ℕ) (s : Ring) (h : History) (g : Invariant s h) where
 
   -- the witnesses stay, and so do the fates
   same : {s' : Ring} {h' : History} → Control s' (g .L) (g .pc) (g .pt) → Accounts s' h' (g .L) (g .pc) (g .pt) (g .a) (g .r0) (g .gap)
-      → FatesOf s' h' (g .droppers) → BoundsOf s' → Invariant s' h'
+      → FatesOf s' h' → BoundsOf s' → Invariant s' h'
   same u k f l = holds (g .L) (g .pc) (g .pt) (g .a) (g .r0) (g .gap) u k f l
 
   -- ---- the limit of the reader page

@@ -2,7 +2,6 @@
 -- Assumes nothing.
 use mathlib.Core.Path.{_≡_, refl, sym, ap, _∙_, subst}
 use mathlib.Core.Bool.{Bool, true, false, _&&_, _||_}
-use mathlib.Core.List.{List}
 use Prim.Native.Nat.{ℕ, suc, _+_, _-_, _*_, _≤_, _<_}
 use native.Mathlib.Omega.{arith}
 use borrow.Author.Tests.{ltb-true, ltb-false, eqb-true, eqb-false, eq-eqb}
@@ -13,7 +12,8 @@ use Rattle.ring.specs.State.{page, noWriter, wordAt, usedAt, top, setPha
 use Rattle.ring.specs.Words.{pageIn, flagIn, samePage, readerOnCommit, links, findHeader}
 use Rattle.ring.specs.Shape.{inShape}
 use Rattle.ring.specs.Write.{planFull, planMark, afterPromote, promoteBy, planPromote, planClear, planPush, planFilled, planPhase, mark, moved, writeRule}
-use Rattle.ring.specs.History.{History, onMarked}
+use Rattle.ring.specs.Remember.{History}
+use Rattle.ring.specs.History.{onMarked}
 use Rattle.ring.specs.declared.state.PageNo.{PageNo}
 use Rattle.ring.specs.declared.state.WriterPhase.{WriterPhase}
 use Rattle.ring.specs.declared.state.WriterPhase.the-variants as phase
@@ -79,8 +79,8 @@ module _ (x : ℕ) (s : Ring) (h : History) (g : Invariant s h) (deep : 1 ≤ s 
   e<len = omega (arith, v .depth)
 
   -- the witnesses stay
-  same : {s' : Ring} {h' : History} {droppers : List ℕ} → Control s' (g .L) (g .pc) (g .pt) → Accounts s' h' (g .L) (g .pc) (g .pt) (g .a) (g .r0) (g .gap)
-      → FatesOf s' h' droppers → BoundsOf s' → Invariant s' h'
+  same : {s' : Ring} {h' : History} → Control s' (g .L) (g .pc) (g .pt) → Accounts s' h' (g .L) (g .pc) (g .pt) (g .a) (g .r0) (g .gap)
+      → FatesOf s' h' → BoundsOf s' → Invariant s' h'
   same u k f l = holds (g .L) (g .pc) (g .pt) (g .a) (g .r0) (g .gap) u k f l
 
   -- ---- another phase of the top record
@@ -89,7 +89,7 @@ module _ (x : ℕ) (s : Ring) (h : History) (g : Invariant s h) (deep : 1 ≤ s 
       → Accounts (setPhase ph s) h (g .L) (g .pc) (g .pt) (g .a) (g .r0) (g .gap)
   phase-acc = phase-accounts b deep (v .depth)
 
-  phase-fates : (ph : WriterPhase) → early (top s .phase) ≡ early ph → FatesOf (setPhase ph s) h (g .droppers)
+  phase-fates : (ph : WriterPhase) → early (top s .phase) ≡ early ph → FatesOf (setPhase ph s) h
   phase-fates ph q =
       let w = rephase (s .stack) (topAt s) ph in
       fates-same (g .fates)
@@ -160,9 +160,9 @@ module _ (x : ℕ) (s : Ring) (h : History) (g : Invariant s h) (deep : 1 ≤ s 
   -- ---- MARK
 
   -- a Marked changes nothing that the fates read
-  marked-fates : (t n : ℕ) → top s .phase ≡ Mark t n → FatesOf (mark (page t) (page n) s) (onMarked (top s .phase) s h) (g .droppers)
+  marked-fates : (t n : ℕ) → top s .phase ≡ Mark t n → FatesOf (mark (page t) (page n) s) (onMarked (top s .phase) s h)
   marked-fates t n q =
-      subst (λ (ph : WriterPhase). FatesOf (mark (page t) (page n) s) (onMarked ph s h) (g .droppers)) (sym q) (phase-fates (Promote t n true) (ap early q))
+      subst (λ (ph : WriterPhase). FatesOf (mark (page t) (page n) s) (onMarked ph s h)) (sym q) (phase-fates (Promote t n true) (ap early q))
 
   mark-next : (t n : ℕ) → top s .phase ≡ Mark t n → After (planMark (page t) (page n) (s .words))
   mark-next t n q =
@@ -193,7 +193,7 @@ module _ (x : ℕ) (s : Ring) (h : History) (g : Invariant s h) (deep : 1 ≤ s 
     after-accounts : Accounts (setPhase then s) h (g .L) (g .pc) (g .pt) (g .a) (g .r0) (g .gap)
     after-accounts = phase-acc then (ap early q) (early-after own t n) (λ p o. subst (λ (f : WriterPhase). Owns f p) (sym q) (own-after own t n p o))
 
-    after-fates : FatesOf (setPhase then s) h (g .droppers)
+    after-fates : FatesOf (setPhase then s) h
     after-fates = phase-fates then (ap early q ∙ sym (early-after own t n))
 
     after-bounds : BoundsOf (setPhase then s)
