@@ -9,7 +9,8 @@ use native.Mathlib.Omega.{arith}
 use borrow.Author.Tests.{eqb-true, eqb-false, not-true, eq-eqb, ne-eqb}
 use lib.Dec.{eqb}
 use Rattle.ring.specs.Lists.{Least, none, at, orAt, least}
-use Rattle.ring.specs.Words.{heads, foundAt, findHeader}
+use Rattle.ring.specs.State.{page}
+use Rattle.ring.specs.Words.{samePage, heads, foundAt, findHeader}
 use Rattle.ring.specs.declared.state.PageNo.{PageNo}
 use Rattle.ring.specs.declared.moves.Search.{Search}
 use Rattle.ring.specs.declared.moves.Search.the-variants as found
@@ -35,9 +36,12 @@ abbrev pub Tells : List ℕ → ℕ → ℕ → Search → Type 0
 Tells words N R (found.At p h) = (p .0 ≤ N) × (p .0 ≢ R) × (flagOf words (p .0) ≡ 1) × (h .0 ≡ nextOf words (p .0))
 Tells words N R found.Nowhere = (p : ℕ) → p ≤ N → p ≢ R → flagOf words p ≢ 1
 
-heads-true : (words : List ℕ) (reader : PageNo) (p : ℕ) → heads words reader p ≡ true → (p ≢ reader .0) × (flagOf words p ≡ 1)
-heads-true words reader p h =
-    (eqb-false p (reader .0) (not-true (eqb p (reader .0)) (and-left _ _ h)), eqb-true (flagOf words p) 1 (and-right (not (eqb p (reader .0))) _ h))
+-- a page that the search stops at is not the reader page
+heads-off : (words : List ℕ) (reader : PageNo) (p : ℕ) → heads words reader p ≡ true → p ≢ reader .0
+heads-off words reader p h = eqb-false p (reader .0) (not-true (eqb p (reader .0)) (and-left _ _ h))
+
+heads-marked : (words : List ℕ) (reader : PageNo) (p : ℕ) → heads words reader p ≡ true → flagOf words p ≡ 1
+heads-marked words reader p h = eqb-true (flagOf words p) 1 (and-right (not (samePage (page p) reader)) _ h)
 
 heads-false : (words : List ℕ) (reader : PageNo) (p : ℕ) → heads words reader p ≡ false → p ≢ reader .0 → flagOf words p ≢ 1
 heads-false words reader p h n f = true≢false (sym (rw (ne-eqb p (reader .0) n, eq-eqb (flagOf words p) 1 f) refl) ∙ h)
@@ -48,5 +52,4 @@ search-tells words n reader = go (least (n + 1) (heads words reader)) (least-is 
     go : (l : Least) → LeastIs (heads words reader) (n + 1) l → Tells words n (reader .0) (foundAt words l)
     go none h = λ p hp. heads-false words reader p (h p (omega arith))
     go (at p) h =
-        let t = heads-true words reader p (h .1) in
-        (omega arith, t .0, t .1, refl)
+        (omega arith, heads-off words reader p (h .1), heads-marked words reader p (h .1), refl)
