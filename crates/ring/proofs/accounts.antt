@@ -3,6 +3,7 @@ pub mod Laws
 pub mod Readings
 pub mod Working
 pub mod Lost
+pub mod Emptied
 pub mod Phase
 pub mod Begin
 pub mod Reserve

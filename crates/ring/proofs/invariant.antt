@@ -1,4 +1,4 @@
--- The invariant behind demand 3, in four parts, each over the same witnesses: what each part says.
+-- The order of the ring pages, and the four parts of the invariant behind demand 3: what each says.
 pub mod Order
 pub mod Control
 pub mod Accounts

@@ -4,4 +4,5 @@ pub mod Swap
 pub mod Walk
 pub mod Places
 pub mod Records
+pub mod Lower
 pub mod Search

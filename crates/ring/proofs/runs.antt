@@ -1,4 +1,4 @@
--- The invariant holds after every list of actions: of a fresh ring, and kept by Begin, Write and Read.
+-- The invariant holds after every list of actions: it holds of a fresh ring, and Begin, Write and Read keep it.
 pub mod Invariant
 pub mod Fresh
 pub mod Begin

@@ -65,6 +65,8 @@ module _ {s : Ring} {h : History} {L : ℕ → ℕ} {pc pt a r0 gap : ℕ} (b : 
   begun-accounts =
       record {
         sizes = b .sizes;
+        rooms = b .rooms;
+        cap = b .cap;
         numbers = b .numbers;
         sums = b .sums;
         values = record {
@@ -78,5 +80,5 @@ module _ {s : Ring} {h : History} {L : ℕ → ℕ} {pc pt a r0 gap : ℕ} (b : 
         work = work';
         balance = omega (arith, b .balance, earlies-new);
         rightly = b .rightly;
-        four = length-set (s .stack) (s .depth) new ∙ b .four;
+        stackRoom = length-set (s .stack) (s .depth) new ∙ b .stackRoom;
       }

@@ -11,7 +11,7 @@ use Rattle.ring.specs.State.{numberAt, valueAt}
 use Rattle.ring.specs.Read.{handOut}
 use Rattle.ring.specs.Remember.{Given, History}
 use Rattle.ring.specs.History.{onEvent}
-use Rattle.ring.specs.Demand.{ungiven}
+use Rattle.ring.specs.Demand.{ungiven, GivenIn}
 use Rattle.ring.specs.declared.state.ReaderPhase.{ReaderPhase}
 use Rattle.ring.specs.declared.state.ReaderPhase.the-variants as reading
 use Rattle.ring.specs.declared.state.Ring.{Ring}
@@ -71,6 +71,11 @@ module _ {s : Ring} {h : History} {L : ℕ → ℕ} {pc pt a r0 gap : ℕ} (v : 
   value-of : {y z : Given} → y ≡ z → y .value ≡ z .value
   value-of q = ap (λ (g : Given). g .value) q
 
+  given-before : {n : ℕ} → GivenIn (h .events) n → GivenIn events' n
+  given-before o =
+      let e = o .event in
+      record { nth = o .nth; event = record { below = omega (arith, size, e .below); gave = number-of (old-event (o .nth) (e .below)) ∙ e .gave } }
+
   past-kept : Past events' (lostOf (h .overwritings)) (h .readings) (s .counts .handed + 1) (s .counts .overwritten) r0 (position + 1) (usedOf s (R s)) gap
   past-kept =
       let k = b .past in
@@ -98,18 +103,18 @@ module _ {s : Ring} {h : History} {L : ℕ → ℕ} {pc pt a r0 gap : ℕ} (v : 
             by-lt n (r0 + position)
             (λ lt.
             ⊎-elim
-            (λ o. inl (record { nth = o .nth; below = omega (arith, size, o .below); is = number-of (old-event (o .nth) (o .below)) ∙ o .is }))
+            (λ o. inl (given-before o))
             (λ o. inr o)
             (k .covered n lt))
             (λ ge.
-            inl (record { nth = length (h .events); below = omega (arith, size); is = number-of (last-event (length (h .events)) refl) ∙ omega arith }));
+            inl (record { nth = length (h .events); event = record { below = omega (arith, size); gave = number-of (last-event (length (h .events)) refl) ∙ omega arith } }));
         gone = k .gone;
         apart = λ n o w.
-            event-cases (o .nth) (o .below)
-            (λ lt y. k .apart n (record { nth = o .nth; below = lt; is = sym (number-of y) ∙ o .is }) w)
+            event-cases (o .nth) (o .event .below)
+            (λ lt y. k .apart n (record { nth = o .nth; event = record { below = lt; gave = sym (number-of y) ∙ o .event .gave } }) w)
             (λ q y.
             let z = number-of y in
-            let given = o .is in
+            let given = o .event .gave in
             let lost = w .is in
             ⊎-elim (λ l. omega arith) (λ l. omega arith) (k .lostApart (w .nth) (w .below)));
       }
@@ -119,6 +124,8 @@ module _ {s : Ring} {h : History} {L : ℕ → ℕ} {pc pt a r0 gap : ℕ} (v : 
       let c = b .sums in
       record {
         sizes = b .sizes;
+        rooms = b .rooms;
+        cap = b .cap;
         numbers = b .numbers;
         sums = record {
           takenIs = c .takenIs;
@@ -138,5 +145,5 @@ module _ {s : Ring} {h : History} {L : ℕ → ℕ} {pc pt a r0 gap : ℕ} (v : 
         work = b .work;
         balance = b .balance;
         rightly = b .rightly;
-        four = b .four;
+        stackRoom = b .stackRoom;
       }

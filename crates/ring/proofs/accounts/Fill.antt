@@ -33,10 +33,7 @@ held-slot : {p q i j : ℕ} → Held p i ≡ Held q j → i ≡ j
 held-slot y = cc
 
 module _ {s : Ring} {h : History} {L : ℕ → ℕ} {pc pt a r0 gap : ℕ} (v : Control s L pc pt) (b : Accounts s h L pc pt a r0 gap) (deep : 1 ≤ s .depth)
-    (p j : ℕ) (ph : top s .phase ≡ Held p j) where
-  abbrev e : ℕ
-  e = topAt s
-
+    (p j : ℕ) (phase-is : top s .phase ≡ Held p j) where
   abbrev value : ℕ
   value = top s .value
 
@@ -44,26 +41,26 @@ module _ {s : Ring} {h : History} {L : ℕ → ℕ} {pc pt a r0 gap : ℕ} (v : 
   values' = set (s .values) (cell (S s) p j) value
 
   abbrev filled : Writer
-  filled = rephase (s .stack) e phase.Filled
+  filled = rephase (s .stack) (topAt s) phase.Filled
 
   holding : Holding (s .numbers) (s .used) (S s) (place (R s) L) pc pt (s .counts .committed) (h .readings) p j value
   holding =
-      subst (HeldOk (s .numbers) (s .used) (S s) (place (R s) L) pc pt (s .counts .committed) (h .readings) value) ph (b .values .held e (omega arith))
+      subst (HeldOk (s .numbers) (s .used) (S s) (place (R s) L) pc pt (s .counts .committed) (h .readings) value) phase-is (b .values .held (topAt s) (omega arith))
 
   p≤N : p ≤ N s
   p≤N = placed-le v (holding .k) p (holding .is)
 
   j<S : j < S s
-  j<S = omega (arith, b .sizes .cap p p≤N, holding .slot)
+  j<S = omega (arith, b .cap p p≤N, holding .slot)
 
   -- in the slot itself
   stored-here : getD values' (cell (S s) p j) 0 ≡ valueOf (h .readings) (getD (s .numbers) (cell (S s) p j) 0)
   stored-here =
       let room = cell-room (S s) p j (omega (arith, p≤N, b .sizes .pages)) (b .sizes .slots) (omega (arith, j<S, b .sizes .slots)) in
-      getD-set-same (s .values) (cell (S s) p j) value 0 (omega (arith, b .sizes .values-room)) ∙ holding .own
+      getD-set-same (s .values) (cell (S s) p j) value 0 (omega (arith, b .rooms .values-room)) ∙ holding .own
 
   -- in any slot that no record holds now
-  stored : (q i : ℕ) → q ≤ N s → i < usedOf s q → ((k : ℕ) → k < s .depth → phaseAt (set (s .stack) e filled) k ≡ Held q i → ⊥)
+  stored : (q i : ℕ) → q ≤ N s → i < usedOf s q → ((k : ℕ) → k < s .depth → phaseAt (set (s .stack) (topAt s) filled) k ≡ Held q i → ⊥)
       → getD values' (cell (S s) q i) 0 ≡ valueOf (h .readings) (getD (s .numbers) (cell (S s) q i) 0)
   stored q i hq hi free =
       by-eq (cell (S s) q i) (cell (S s) p j)
@@ -71,32 +68,26 @@ module _ {s : Ring} {h : History} {L : ℕ → ℕ} {pc pt a r0 gap : ℕ} (v : 
       ap (λ (k : ℕ). getD values' k 0) same ∙ stored-here ∙ ap (λ (k : ℕ). valueOf (h .readings) (getD (s .numbers) k 0)) (sym same))
       (λ other.
       getD-set-other (s .values) (cell (S s) p j) (cell (S s) q i) value 0 other
-      ∙ b .values .stored q i hq hi (unheld b deep (v .depth) filled q i (λ y. other (moved (sym ph ∙ y))) free))
+      ∙ b .values .stored q i hq hi (unheld b deep (v .depth) filled q i (λ y. other (moved (sym phase-is ∙ y))) free))
     where
       moved : Held p j ≡ Held q i → cell (S s) q i ≡ cell (S s) p j
       moved y = ap (λ (k : ℕ). cell (S s) k i) (sym (held-page y)) ∙ ap (cell (S s) p) (sym (held-slot y))
 
   pub filled-accounts : Accounts (fill (page p) j s) h L pc pt a r0 gap
   filled-accounts =
-      let z = b .sizes in
       record {
-        sizes = record {
-          pages = z .pages;
-          some = z .some;
-          slots = z .slots;
-          numbers-room = z .numbers-room;
-          values-room = length-set (s .values) (cell (S s) p j) value ∙ z .values-room;
-          cap = z .cap;
-        };
+        sizes = b .sizes;
+        rooms = record { numbers-room = b .rooms .numbers-room; values-room = length-set (s .values) (cell (S s) p j) value ∙ b .rooms .values-room };
+        cap = b .cap;
         numbers = b .numbers;
         sums = b .sums;
         values = record { held = held-top b deep (v .depth) filled tt; stored = stored };
         quiet = b .quiet;
         past = b .past;
         ordered = b .ordered;
-        work = work-top (h .marker) (s .stack) (s .depth) e filled (h .working) (omega (arith, v .depth)) refl (λ k o. absurd o) (b .work);
+        work = work-top (h .marker) (s .stack) (s .depth) (topAt s) filled (h .working) (omega (arith, v .depth)) refl (λ k o. absurd o) (b .work);
         balance =
-            omega (arith, balance-top b deep (v .depth), earlies-set b deep (v .depth) filled, ap early ph);
+            omega (arith, balance-top b deep (v .depth), earlies-set b deep (v .depth) filled, ap early phase-is);
         rightly = b .rightly;
-        four = length-set (s .stack) e filled ∙ b .four;
+        stackRoom = length-set (s .stack) (topAt s) filled ∙ b .stackRoom;
       }

@@ -1,9 +1,10 @@
--- One place of the stack replaced: what stays of values, of the count of early records, of held slots and of the writers at work. And where slots stand, and sums.
+-- One place of the stack replaced: what stays of values, of the count of early records, of held slots and of the writers at work. And laws of the reader's
+-- phase, of where slots stand, and of sums.
 -- Assumes nothing.
 use mathlib.Core.Path.{_≡_, refl, sym, ap, _∙_, subst}
 use mathlib.Core.Logic.{_≢_}
 use mathlib.Core.List.{List}
-use Prim.Native.Nat.{ℕ, zero, suc, _+_, _*_, _≤_, _<_}
+use Prim.Native.Nat.{ℕ, zero, suc, _+_, _-_, _*_, _≤_, _<_}
 use native.Mathlib.Omega.{arith}
 use native.Mathlib.Nat.{mul-le-mul-left, mul-comm}
 use lib.ListN.{length, getD, set}
@@ -89,17 +90,22 @@ stored-own {numbers} {values} {used} {N} {S} {stack} {depth} {P} {pc} {pt} {c} {
     let m : ⊥ = omega arith in
     m)
 
--- ---- writers at work
-
--- a place at or above the depth is replaced
-pub work-above : (marker : PageNo → Marker) (stack : List Writer) (depth e : ℕ) (w : Writer) (working : List BegunWriter) → depth ≤ e
-    → AtWork marker stack depth working → AtWork marker (set stack e w) depth working
-work-above marker stack depth e w working h k =
+-- every place from the commit page's on falls by one, and the slot stays below used
+pub holding-lower : {numbers used used' : List ℕ} {S : ℕ} {P P' : ℕ → ℕ} {pc pt c : ℕ} {readings : List Numbered} {p j v : ℕ} → 1 ≤ pc
+    → ((i : ℕ) → pc ≤ i → i ≤ pt → P' (i - 1) ≡ P i) → (Holding numbers used S P pc pt c readings p j v → getD used' p 0 ≡ getD used p 0)
+    → Holding numbers used S P pc pt c readings p j v → Holding numbers used' S P' (pc - 1) (pt - 1) c readings p j v
+holding-lower ahead lower kept o =
     record {
-      many = k .many;
-      value = λ i hi. k .value i hi ∙ sym (value-other stack e i w (omega arith));
-      marks = λ i p hi o. k .marks i p hi (subst (λ (q : WriterPhase). Owns q p) (phase-other stack e i w (omega arith)) o);
+      k = o .k - 1;
+      lo = omega (arith, o .lo);
+      hi = omega (arith, o .hi);
+      is = lower (o .k) (o .lo) (o .hi) ∙ o .is;
+      slot = omega (arith, kept o, o .slot);
+      late = o .late;
+      own = o .own;
     }
+
+-- ---- writers at work
 
 -- a record keeps its value and owns no more than it did
 pub work-top : (marker : PageNo → Marker) (stack : List Writer) (depth e : ℕ) (w : Writer) (working : List BegunWriter) → e < length stack
@@ -144,9 +150,13 @@ split-once S x y i j hi hj e = cell-once S x y i j hi hj (ap (λ (z : ℕ). z + 
 
 -- ---- sums
 
+-- the same number at a place one lower, with a one higher
+pub lower-sum : (S a i : ℕ) → 1 ≤ i → S * (a + i) ≡ S * (suc a + (i - 1))
+lower-sum S a i h = ap (λ (k : ℕ). S * k) (omega arith)
+
 module _ {S uR uT uC index position taken committed handed overwritten pc pt a r0 gap : ℕ}
     (k : Sums S uR uT uC index position taken committed handed overwritten pc pt a r0 gap) where
-  pub committed-le : pc ≤ pt → (pc ≡ pt → uC ≡ uT) → uC ≤ S → committed ≤ taken
+  committed-le : pc ≤ pt → (pc ≡ pt → uC ≡ uT) → uC ≤ S → committed ≤ taken
   committed-le le same cap =
       by-eq pc pt
       (λ e.
@@ -181,4 +191,4 @@ pub committed-taken : {s : Ring} {h : History} {L : ℕ → ℕ} {pc pt a r0 gap
 committed-taken {s} {L = L} v b =
     committed-le (b .sums) (v .order .le)
     (λ e. ap (usedOf s) (sym (v .order .commitAt) ∙ ap (place (R s) L) e ∙ v .order .tailAt))
-    (b .sizes .cap (C s) (commit-le v))
+    (b .cap (C s) (commit-le v))

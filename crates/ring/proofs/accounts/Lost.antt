@@ -1,4 +1,5 @@
--- The numbers lost: how many an overwriting adds and which, by recursion on the page's slots and on the list of overwritings.
+-- The numbers lost: how many an overwriting adds and which, by recursion on the page's slots and on the list of overwritings; and a fact of all overwritings,
+-- with one more.
 -- Assumes nothing.
 use mathlib.Core.Path.{_≡_, refl, ap, _∙_}
 use mathlib.Core.List.{List, [], _∷_, _++_, append-assoc, append-nil}

@@ -9,7 +9,7 @@ use native.Mathlib.Omega.{arith}
 use native.Mathlib.Nat.{mul-le-mul-left}
 use borrow.Author.Tests.{lt-ltb, eq-eqb, ne-eqb}
 use lib.ListN.{length, getD, set, length-set, length-append, List·getD-append}
-use lib.Seq.{getD-set-same, getD-set-other, getD-append-add}
+use lib.Seq.{getD-append-add}
 use Rattle.ring.specs.State.{page, numberAt, top}
 use Rattle.ring.specs.Write.{mark}
 use Rattle.ring.specs.Remember.{Marker, By, History}
@@ -23,19 +23,18 @@ use Rattle.ring.proofs.Lists.{by-eq, by-lt}
 use Rattle.ring.proofs.invariant.Order.{N, S, R, T, C, topAt, usedOf, cell, phaseAt, storedAt, rephase, Mark, Promote, place, turn}
 use Rattle.ring.proofs.invariant.Control.{Owns, Control}
 use Rattle.ring.proofs.invariant.Accounts.{Numbers, Sums, Holding, HeldOk, Values, early, numbersOn, lostOf, Lost, Past, workerAt, AtWork, Accounts}
-use Rattle.ring.proofs.accounts.Laws.{value-same, value-other, held-map, quiet-map}
+use Rattle.ring.proofs.accounts.Emptied.{emptied-other, emptied-slot, emptied-cap, emptied-below, lower-number}
+use Rattle.ring.proofs.accounts.Laws.{value-same, value-other, held-map, holding-lower, quiet-map, lower-sum}
 use Rattle.ring.proofs.accounts.Lost.{numbersOn-length, numbersOn-at, lostOf-snoc, All-snoc}
 use Rattle.ring.proofs.accounts.Phase.{early-not-held, unheld, balance-top, earlies-set}
+use Rattle.ring.proofs.accounts.Readings.{committed-at}
 use Rattle.ring.proofs.control.Mark.{marking, t-newest, n-oldest, tail-newest, tail-is, commit-off, n≤N, n≢R, away, t≢n, lower, newest-now, unowned}
-use Rattle.ring.proofs.demand.Readings.{committed-at}
+use Rattle.ring.proofs.control.Phase.{top-below}
 use Rattle.ring.proofs.order.Places.{page-once, ring-place, place-turn}
 use Rattle.ring.proofs.order.Records.{phase-same, phase-other}
 
 module _ {s : Ring} {h : History} {L : ℕ → ℕ} {pc pt a r0 gap : ℕ} (v : Control s L pc pt) (b : Accounts s h L pc pt a r0 gap) (deep : 1 ≤ s .depth)
-    (t n : ℕ) (ph : top s .phase ≡ Mark t n) (hw : getD (s .words) t 0 ≡ 4 * n + 1) where
-  abbrev e : ℕ
-  e = topAt s
-
+    (t n : ℕ) (phase-is : top s .phase ≡ Mark t n) (word-is : getD (s .words) t 0 ≡ 4 * n + 1) where
   abbrev P : ℕ → ℕ
   P = place (R s) L
 
@@ -46,52 +45,42 @@ module _ {s : Ring} {h : History} {L : ℕ → ℕ} {pc pt a r0 gap : ℕ} (v : 
   used' = set (s .used) n 0
 
   abbrev owner : Writer
-  owner = rephase (s .stack) e (Promote t n true)
+  owner = rephase (s .stack) (topAt s) (Promote t n true)
 
   abbrev uR : ℕ
   uR = usedOf s (R s)
 
-  e<len : e < length (s .stack)
-  e<len = omega (arith, v .depth)
-
   -- ---- page n, by what control says
 
   n-le : n ≤ N s
-  n-le = n≤N v deep t n ph hw
+  n-le = n≤N v deep t n phase-is word-is
 
   n-is : n ≡ P 1
-  n-is = n-oldest v deep t n ph hw
+  n-is = n-oldest v deep t n phase-is word-is
 
   pt-is : pt ≡ N s
-  pt-is = tail-newest v deep t n ph hw
+  pt-is = tail-newest v deep t n phase-is word-is
 
-  two : 2 ≤ pc
-  two = commit-off v deep t n ph hw
+  2≤pc : 2 ≤ pc
+  2≤pc = commit-off v deep t n phase-is word-is
 
-  off : (k : ℕ) → 2 ≤ k → k ≤ N s → P k ≢ n
-  off = away v deep t n ph hw
+  away-from-n : (k : ℕ) → 2 ≤ k → k ≤ N s → P k ≢ n
+  away-from-n = away v deep t n phase-is word-is
 
   R≢n : R s ≢ n
-  R≢n z = n≢R v deep t n ph hw (sym z)
+  R≢n z = n≢R v deep t n phase-is word-is (sym z)
+
+  n-room : n < length (s .used)
+  n-room = omega (arith, n-le, v .order .room)
 
   kept : (p : ℕ) → p ≢ n → getD used' p 0 ≡ usedOf s p
-  kept p ne = getD-set-other (s .used) n p 0 0 ne
-
-  emptied : getD used' n 0 ≡ 0
-  emptied = getD-set-same (s .used) n 0 0 (omega (arith, n-le, v .order .room))
-
-  -- a slot below the new used lay below the old one, on another page
-  old-slot : {A : Type 0} (p j : ℕ) → j < getD used' p 0 → (p ≢ n → j < usedOf s p → A) → A
-  old-slot p j hj go =
-      by-eq p n
-      (λ z. absurd (omega (arith, ap (λ (k : ℕ). getD used' k 0) z, emptied)))
-      (λ z. go z (subst (λ (k : ℕ). j < k) (kept p z) hj))
+  kept = emptied-other (s .used) n n-room
 
   n-full : usedOf s n ≡ S s
   n-full = ap (usedOf s) n-is ∙ v .order .full 1 (omega arith) (omega (arith, pt-is, v .links .cycle .two))
 
   from : r0 + uR + gap ≡ S s * a
-  from = b .sums .ringFrom (omega (arith, two))
+  from = b .sums .ringFrom (omega (arith, 2≤pc))
 
   n-number : (j : ℕ) → j < S s → getD (s .numbers) (cell (S s) n j) 0 ≡ S s * a + j
   n-number j hj =
@@ -170,59 +159,40 @@ module _ {s : Ring} {h : History} {L : ℕ → ℕ} {pc pt a r0 gap : ℕ} (v : 
         apart = λ m o w.
             lost-cases (w .nth) (w .below)
             (λ lt y. k .apart m o (record { nth = w .nth; below = lt; is = sym y ∙ w .is }))
-            (λ j hj q y. omega (arith, k .given (o .nth) (o .below), o .is, w .is));
+            (λ j hj q y. omega (arith, k .given (o .nth) (o .event .below), o .event .gave, w .is));
       }
 
   -- ---- the numbers kept
 
-  shifted : (i : ℕ) → 1 ≤ i → P' i ≡ P (suc i)
-  shifted = place-turn (R s) L
-
   numbers-kept : Numbers (s .numbers) used' (N s) (S s) (R s) P' (suc a) r0 (s .counts .taken)
   numbers-kept =
       record {
-        slot = λ i j lo hi hj.
-            old-slot (P' i) j hj
-            (λ ne o.
-            let notLast : i ≢ N s = λ z. ne (ap P' z ∙ newest-now v deep t n ph hw) in
-            let q = shifted i lo in
-            let was = b .numbers .slot (suc i) j (omega arith) (omega arith) (subst (λ (k : ℕ). j < usedOf s k) q o) in
-            omega (arith, ap (λ (k : ℕ). getD (s .numbers) (cell (S s) k j) 0) q));
-        reader = λ j hj. old-slot (R s) j hj (λ ne o. b .numbers .reader j o);
-        below = λ p j hp hj. old-slot p j hj (λ ne o. b .numbers .below p j hp o);
+        slot = lower-number (s .used) n n-room (b .numbers) P' (newest-now v deep t n phase-is word-is) (λ i lo hi. place-turn (R s) L i lo);
+        reader = λ j hj. b .numbers .reader j (subst (λ (k : ℕ). j < k) (kept (R s) R≢n) hj);
+        below = emptied-below (s .used) n n-room (b .numbers);
       }
 
   holding-kept : (p j w : ℕ) → Holding (s .numbers) (s .used) (S s) P pc pt (s .counts .committed) (h .readings) p j w
-      → Holding (s .numbers) used' (S s) P' (pc - 1) (N s - 1) (s .counts .committed) (h .readings) p j w
-  holding-kept p j w o =
-      let y = two in
-      let z = pt-is in
-      let ne : p ≢ n = λ q. off (o .k) (omega (arith, o .lo)) (omega (arith, o .hi)) (o .is ∙ q) in
-      record {
-        k = o .k - 1;
-        lo = omega (arith, o .lo);
-        hi = omega (arith, o .hi);
-        is = lower v deep t n ph hw (o .k) (omega (arith, o .lo)) ∙ o .is;
-        slot = omega (arith, kept p ne, o .slot);
-        late = o .late;
-        own = o .own;
-      }
+      → Holding (s .numbers) used' (S s) P' (pc - 1) (pt - 1) (s .counts .committed) (h .readings) p j w
+  holding-kept p j w =
+      holding-lower (omega (arith, 2≤pc)) (λ i lo hi. lower v deep t n phase-is word-is i (omega (arith, 2≤pc)))
+      (λ o. kept p (λ q. away-from-n (o .k) (omega (arith, 2≤pc, o .lo)) (omega (arith, pt-is, o .hi)) (o .is ∙ q)))
 
   abbrev Ok : ℕ → WriterPhase → Type 0
-  Ok = HeldOk (s .numbers) used' (S s) P' (pc - 1) (N s - 1) (s .counts .committed) (h .readings)
+  Ok = HeldOk (s .numbers) used' (S s) P' (pc - 1) (pt - 1) (s .counts .committed) (h .readings)
 
-  values-kept : Values (s .numbers) (s .values) used' (N s) (S s) (set (s .stack) e owner) (s .depth) P' (pc - 1) (N s - 1) (s .counts .committed) (h .readings)
+  values-kept : Values (s .numbers) (s .values) used' (N s) (S s) (set (s .stack) (topAt s) owner) (s .depth) P' (pc - 1) (pt - 1) (s .counts .committed) (h .readings)
   values-kept =
       record {
         held = λ i hi.
-            by-eq i e
-            (λ z. subst (Ok (storedAt (set (s .stack) e owner) i)) (sym (ap (phaseAt (set (s .stack) e owner)) z ∙ phase-same (s .stack) e owner e<len)) tt)
+            by-eq i (topAt s)
+            (λ z. subst (Ok (storedAt (set (s .stack) (topAt s) owner) i)) (sym (ap (phaseAt (set (s .stack) (topAt s) owner)) z ∙ phase-same (s .stack) (topAt s) owner (top-below v deep))) tt)
             (λ ne.
-            rw (value-other (s .stack) e i owner ne, phase-other (s .stack) e i owner ne)
-            (held-map (s .numbers) (s .numbers) (s .used) used' (S s) P P' pc (pc - 1) pt (N s - 1) (s .counts .committed) (s .counts .committed) (h .readings) (h .readings)
+            rw (value-other (s .stack) (topAt s) i owner ne, phase-other (s .stack) (topAt s) i owner ne)
+            (held-map (s .numbers) (s .numbers) (s .used) used' (S s) P P' pc (pc - 1) pt (pt - 1) (s .counts .committed) (s .counts .committed) (h .readings) (h .readings)
             holding-kept (storedAt (s .stack) i) (phaseAt (s .stack) i) (b .values .held i hi)));
         stored = λ p j hp hj free.
-            old-slot p j hj (λ ne o. b .values .stored p j hp o (unheld b deep (v .depth) owner p j (early-not-held p j (ap early ph)) free));
+            emptied-slot (s .used) n n-room p j hj (λ ne o. b .values .stored p j hp o (unheld b deep (v .depth) owner p j (early-not-held p j (ap early phase-is)) free));
       }
 
   -- ---- the page taken
@@ -233,13 +203,13 @@ module _ {s : Ring} {h : History} {L : ℕ → ℕ} {pc pt a r0 gap : ℕ} (v : 
       (λ lt. v .order .full i lo (omega (arith, pt-is)))
       (λ ge.
       let last : i ≡ N s = omega arith in
-      ap (usedOf s) (ap P last ∙ sym (t-newest v deep t n ph hw)) ∙ marking v deep t n ph .spot .full)
+      ap (usedOf s) (ap P last ∙ sym (t-newest v deep t n phase-is word-is)) ∙ marking v deep t n phase-is .spot .full)
 
   n-committed : (j : ℕ) → j < usedOf s n → isCommitted (h .readings) (getD (s .numbers) (cell (S s) n j) 0) ≡ true
   n-committed j hj =
       let z = n-number j (omega (arith, n-full)) in
       let lies = b .numbers .below n j n-le hj in
-      let after : S s * (a + 2) ≤ S s * (a + pc) = mul-le-mul-left (S s) (omega (arith, two)) in
+      let after : S s * (a + 2) ≤ S s * (a + pc) = mul-le-mul-left (S s) (omega (arith, 2≤pc)) in
       committed-at (b .ordered) _ lies
       ∙ lt-ltb _ (s .counts .committed) (omega (arith, b .sums .committedIs, n-full))
 
@@ -276,44 +246,40 @@ module _ {s : Ring} {h : History} {L : ℕ → ℕ} {pc pt a r0 gap : ℕ} (v : 
   marked-other : (p : ℕ) → p ≢ t → marker' (page p) ≡ h .marker (page p)
   marked-other p n = rw (ne-eqb p t n) refl
 
-  work-kept : AtWork marker' (set (s .stack) e owner) (s .depth) (h .working)
+  work-kept : AtWork marker' (set (s .stack) (topAt s) owner) (s .depth) (h .working)
   work-kept =
       let k = b .work in
       record {
         many = k .many;
         value = λ i hi.
-            by-eq i e
-            (λ z. k .value i hi ∙ ap (storedAt (s .stack)) z ∙ sym (ap (storedAt (set (s .stack) e owner)) z ∙ value-same (s .stack) e owner e<len))
-            (λ ne. k .value i hi ∙ sym (value-other (s .stack) e i owner ne));
+            by-eq i (topAt s)
+            (λ z. k .value i hi ∙ ap (storedAt (s .stack)) z ∙ sym (ap (storedAt (set (s .stack) (topAt s) owner)) z ∙ value-same (s .stack) (topAt s) owner (top-below v deep)))
+            (λ ne. k .value i hi ∙ sym (value-other (s .stack) (topAt s) i owner ne));
         marks = λ i p hi o.
-            by-eq i e
+            by-eq i (topAt s)
             (λ z.
-            let here : t ≡ p = subst (λ (f : WriterPhase). Owns f p) (ap (phaseAt (set (s .stack) e owner)) z ∙ phase-same (s .stack) e owner e<len) o in
+            let here : t ≡ p = subst (λ (f : WriterPhase). Owns f p) (ap (phaseAt (set (s .stack) (topAt s) owner)) z ∙ phase-same (s .stack) (topAt s) owner (top-below v deep)) o in
             let last : length (h .working) - 1 ≡ i = omega (arith, k .many) in
             ap (λ (q : ℕ). marker' (page q)) (sym here) ∙ marked-here ∙ ap (λ (j : ℕ). By (workerAt (h .working) j .nth)) last)
             (λ ne.
-            let was : Owns (phaseAt (s .stack) i) p = subst (λ (f : WriterPhase). Owns f p) (phase-other (s .stack) e i owner ne) o in
-            marked-other p (λ q. unowned v deep t n ph hw i hi (subst (Owns (phaseAt (s .stack) i)) q was)) ∙ k .marks i p hi was);
+            let was : Owns (phaseAt (s .stack) i) p = subst (λ (f : WriterPhase). Owns f p) (phase-other (s .stack) (topAt s) i owner ne) o in
+            marked-other p (λ q. unowned v deep t n phase-is word-is i hi (subst (Owns (phaseAt (s .stack) i)) q was)) ∙ k .marks i p hi was);
       }
 
   -- ---- all of it
 
   sums-kept : Sums (S s) (getD used' (R s) 0) (getD used' (T s) 0) (getD used' (C s) 0) (s .places .index) (s .places .position) (s .counts .taken) (s .counts .committed)
-      (s .counts .handed) (s .counts .overwritten + usedOf s n) (pc - 1) (N s - 1) (suc a) r0 (gap + S s)
+      (s .counts .handed) (s .counts .overwritten + usedOf s n) (pc - 1) (pt - 1) (suc a) r0 (gap + S s)
   sums-kept =
       let c = b .sums in
-      let y = two in
+      let y = 2≤pc in
       let w = pt-is in
       let same = kept (R s) R≢n in
-      let tail-kept = kept (T s) (λ l. t≢n v deep t n ph hw (sym (tail-is v deep t n ph hw) ∙ l)) in
-      let commit-kept = kept (C s) (λ l. off pc y (omega (arith, v .order .le)) (v .order .commitAt ∙ l)) in
+      let tail-kept = kept (T s) (λ l. t≢n v deep t n phase-is word-is (sym (tail-is v deep t n phase-is word-is) ∙ l)) in
+      let commit-kept = kept (C s) (λ l. away-from-n pc y (omega (arith, v .order .le)) (v .order .commitAt ∙ l)) in
       record {
-        takenIs =
-            let q : S s * (a + pt) ≡ S s * (suc a + (N s - 1)) = ap (λ (k : ℕ). S s * k) (omega (arith, v .links .cycle .two)) in
-            omega (arith, c .takenIs);
-        committedIs =
-            let q : S s * (a + pc) ≡ S s * (suc a + (pc - 1)) = ap (λ (k : ℕ). S s * k) (omega arith) in
-            omega (arith, c .committedIs);
+        takenIs = omega (arith, c .takenIs, lower-sum (S s) a pt (omega (arith, v .order .le)));
+        committedIs = omega (arith, c .committedIs, lower-sum (S s) a pc (omega arith));
         indexed = omega (arith, c .indexed);
         read = omega (arith, c .read);
         readCommitted = λ q. absurd (omega arith);
@@ -323,24 +289,12 @@ module _ {s : Ring} {h : History} {L : ℕ → ℕ} {pc pt a r0 gap : ℕ} (v : 
         total = omega (arith, c .total, n-full);
       }
 
-  cap-kept : (p : ℕ) → p ≤ N s → getD used' p 0 ≤ S s
-  cap-kept p hp =
-      by-eq p n
-      (λ q. omega (arith, ap (λ (k : ℕ). getD used' k 0) q, emptied))
-      (λ q. omega (arith, kept p q, b .sizes .cap p hp))
-
-  core : Accounts (mark (page t) (page n) s) (onMark (page t) (page n) s h) (turn L) (pc - 1) (N s - 1) (suc a) r0 (gap + S s)
-  core =
-      let z = b .sizes in
+  mark-accounts : Accounts (mark (page t) (page n) s) (onMark (page t) (page n) s h) (turn L) (pc - 1) (pt - 1) (suc a) r0 (gap + S s)
+  mark-accounts =
       record {
-        sizes = record {
-          pages = z .pages;
-          some = z .some;
-          slots = z .slots;
-          numbers-room = z .numbers-room;
-          values-room = z .values-room;
-          cap = cap-kept;
-        };
+        sizes = b .sizes;
+        rooms = b .rooms;
+        cap = emptied-cap (s .used) n n-room (N s) (S s) (b .cap);
         numbers = numbers-kept;
         sums = sums-kept;
         values = values-kept;
@@ -354,11 +308,11 @@ module _ {s : Ring} {h : History} {L : ℕ → ℕ} {pc pt a r0 gap : ℕ} (v : 
             (sym (lostOf-snoc (h .overwritings) _)) past-kept;
         ordered = b .ordered;
         work = work-kept;
-        balance = omega (arith, balance-top b deep (v .depth), earlies-set b deep (v .depth) owner, ap early ph);
+        balance = omega (arith, balance-top b deep (v .depth), earlies-set b deep (v .depth) owner, ap early phase-is);
         rightly = All-snoc RightlyTaken (h .overwritings) _ (b .rightly) rightly;
-        four = length-set (s .stack) e owner ∙ b .four;
+        stackRoom = length-set (s .stack) (topAt s) owner ∙ b .stackRoom;
       }
 
-  pub marked-accounts : Accounts (mark (page t) (page n) s) (onMarked (top s .phase) s h) (turn L) (pc - 1) (N s - 1) (suc a) r0 (gap + S s)
+  pub marked-accounts : Accounts (mark (page t) (page n) s) (onMarked (top s .phase) s h) (turn L) (pc - 1) (pt - 1) (suc a) r0 (gap + S s)
   marked-accounts =
-      subst (λ (f : WriterPhase). Accounts (mark (page t) (page n) s) (onMarked f s h) (turn L) (pc - 1) (N s - 1) (suc a) r0 (gap + S s)) (sym ph) core
+      subst (λ (f : WriterPhase). Accounts (mark (page t) (page n) s) (onMarked f s h) (turn L) (pc - 1) (pt - 1) (suc a) r0 (gap + S s)) (sym phase-is) mark-accounts

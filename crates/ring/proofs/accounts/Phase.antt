@@ -28,6 +28,8 @@ module _ {s : Ring} {h : History} {L : ℕ → ℕ} {pc pt a r0 gap : ℕ} (b : 
   words-accounts words =
       record {
         sizes = b .sizes;
+        rooms = b .rooms;
+        cap = b .cap;
         numbers = b .numbers;
         sums = b .sums;
         values = b .values;
@@ -37,13 +39,15 @@ module _ {s : Ring} {h : History} {L : ℕ → ℕ} {pc pt a r0 gap : ℕ} (b : 
         work = b .work;
         balance = b .balance;
         rightly = b .rightly;
-        four = b .four;
+        stackRoom = b .stackRoom;
       }
 
   pub reader-accounts : (ph : ReaderPhase) → Quiet ph (s .places .position) (usedOf s (R s)) → Accounts (withReaderPhase ph s) h L pc pt a r0 gap
   reader-accounts ph q =
       record {
         sizes = b .sizes;
+        rooms = b .rooms;
+        cap = b .cap;
         numbers = b .numbers;
         sums = b .sums;
         values = b .values;
@@ -53,63 +57,62 @@ module _ {s : Ring} {h : History} {L : ℕ → ℕ} {pc pt a r0 gap : ℕ} (b : 
         work = b .work;
         balance = b .balance;
         rightly = b .rightly;
-        four = b .four;
+        stackRoom = b .stackRoom;
       }
 
   module _ (deep : 1 ≤ s .depth) (room : s .depth ≤ length (s .stack)) where
-    abbrev e : ℕ
-    e = topAt s
-
     abbrev Ok : ℕ → WriterPhase → Type 0
     Ok = HeldOk (s .numbers) (s .used) (S s) (place (R s) L) pc pt (s .counts .committed) (h .readings)
 
     -- every record's held slot, after the top record is replaced
-    pub held-top : (w : Writer) → Ok (w .value) (w .phase) → (i : ℕ) → i < s .depth → Ok (storedAt (set (s .stack) e w) i) (phaseAt (set (s .stack) e w) i)
+    pub held-top : (w : Writer) → Ok (w .value) (w .phase) → (i : ℕ) → i < s .depth → Ok (storedAt (set (s .stack) (topAt s) w) i) (phaseAt (set (s .stack) (topAt s) w) i)
     held-top w o i hi =
-        by-eq i e
+        by-eq i (topAt s)
         (λ z.
-        subst (λ (k : ℕ). Ok (storedAt (set (s .stack) e w) k) (phaseAt (set (s .stack) e w) k)) (sym z)
-        (rw (value-same (s .stack) e w (omega arith), phase-same (s .stack) e w (omega arith)) o))
-        (λ n. rw (value-other (s .stack) e i w n, phase-other (s .stack) e i w n) (b .values .held i hi))
+        subst (λ (k : ℕ). Ok (storedAt (set (s .stack) (topAt s) w) k) (phaseAt (set (s .stack) (topAt s) w) k)) (sym z)
+        (rw (value-same (s .stack) (topAt s) w (omega arith), phase-same (s .stack) (topAt s) w (omega arith)) o))
+        (λ n. rw (value-other (s .stack) (topAt s) i w n, phase-other (s .stack) (topAt s) i w n) (b .values .held i hi))
 
     -- no record held the slot before, if none does now and the top one did not
-    pub unheld : (w : Writer) (p j : ℕ) → (top s .phase ≡ Held p j → ⊥) → ((i : ℕ) → i < s .depth → phaseAt (set (s .stack) e w) i ≡ Held p j → ⊥)
+    pub unheld : (w : Writer) (p j : ℕ) → (top s .phase ≡ Held p j → ⊥) → ((i : ℕ) → i < s .depth → phaseAt (set (s .stack) (topAt s) w) i ≡ Held p j → ⊥)
         → (i : ℕ) → i < s .depth → phaseAt (s .stack) i ≡ Held p j → ⊥
     unheld w p j was new i hi z =
-        by-eq i e
+        by-eq i (topAt s)
         (λ y. was (ap (phaseAt (s .stack)) (sym y) ∙ z))
-        (λ n. new i hi (phase-other (s .stack) e i w n ∙ z))
+        (λ n. new i hi (phase-other (s .stack) (topAt s) i w n ∙ z))
 
     -- the count of early records, with the top record apart
-    pub balance-top : s .counts .begun ≡ s .counts .taken + s .counts .dropped + (early (top s .phase) + earlies (s .stack) e)
+    pub balance-top : s .counts .begun ≡ s .counts .taken + s .counts .dropped + (early (top s .phase) + earlies (s .stack) (topAt s))
     balance-top =
-        let d : s .depth ≡ suc e = omega arith in
+        let d : s .depth ≡ suc (topAt s) = omega arith in
         b .balance ∙ ap (λ (k : ℕ). s .counts .taken + s .counts .dropped + earlies (s .stack) k) d
 
     -- the same after the top record is replaced
-    pub earlies-set : (w : Writer) → earlies (set (s .stack) e w) (s .depth) ≡ early (w .phase) + earlies (s .stack) e
+    pub earlies-set : (w : Writer) → earlies (set (s .stack) (topAt s) w) (s .depth) ≡ early (w .phase) + earlies (s .stack) (topAt s)
     earlies-set w =
-        let d : s .depth ≡ suc e = omega arith in
-        ap (earlies (set (s .stack) e w)) d ∙ earlies-top (s .stack) e w (omega arith)
+        let d : s .depth ≡ suc (topAt s) = omega arith in
+        ap (earlies (set (s .stack) (topAt s) w)) d ∙ earlies-top (s .stack) (topAt s) w (omega arith)
 
     -- an early record becomes another early record
     pub phase-accounts : (ph : WriterPhase) → early (top s .phase) ≡ 1 → early ph ≡ 1 → ((p : ℕ) → Owns ph p → Owns (top s .phase) p)
         → Accounts (setPhase ph s) h L pc pt a r0 gap
     phase-accounts ph was is own =
-        let w = rephase (s .stack) e ph in
+        let w = rephase (s .stack) (topAt s) ph in
         record {
           sizes = b .sizes;
+          rooms = b .rooms;
+          cap = b .cap;
           numbers = b .numbers;
           sums = b .sums;
           values = record {
-            held = held-top w (held-early (s .numbers) (s .used) (S s) (place (R s) L) pc pt (s .counts .committed) (h .readings) (storedAt (s .stack) e) ph is);
+            held = held-top w (held-early (s .numbers) (s .used) (S s) (place (R s) L) pc pt (s .counts .committed) (h .readings) (storedAt (s .stack) (topAt s)) ph is);
             stored = λ p j hp hj no. b .values .stored p j hp hj (unheld w p j (early-not-held p j was) no);
           };
           quiet = b .quiet;
           past = b .past;
           ordered = b .ordered;
-          work = work-top (h .marker) (s .stack) (s .depth) e w (h .working) (omega arith) refl own (b .work);
+          work = work-top (h .marker) (s .stack) (s .depth) (topAt s) w (h .working) (omega arith) refl own (b .work);
           balance = omega (arith, balance-top, earlies-set w);
           rightly = b .rightly;
-          four = length-set (s .stack) e w ∙ b .four;
+          stackRoom = length-set (s .stack) (topAt s) w ∙ b .stackRoom;
         }

@@ -25,13 +25,10 @@ use Rattle.ring.proofs.accounts.Working.{others-length, others-at}
 use Rattle.ring.proofs.order.Records.{phase-other}
 
 module _ {s : Ring} {h : History} {L : ℕ → ℕ} {pc pt a r0 gap : ℕ} (b : Accounts s h L pc pt a r0 gap) (deep : 1 ≤ s .depth) (room : s .depth ≤ length (s .stack)) where
-  abbrev e : ℕ
-  e = topAt s
-
   abbrev stack' : List Writer
-  stack' = set (s .stack) e noWriter
+  stack' = set (s .stack) (topAt s) noWriter
 
-  work' : AtWork (h .marker) stack' e (others (h .working))
+  work' : AtWork (h .marker) stack' (topAt s) (others (h .working))
   work' =
       let k = b .work in
       record {
@@ -39,30 +36,30 @@ module _ {s : Ring} {h : History} {L : ℕ → ℕ} {pc pt a r0 gap : ℕ} (b : 
         value = λ i hi.
             ap (λ (w : BegunWriter). w .value) (others-at (h .working) (k .many) i hi)
             ∙ k .value i (omega arith)
-            ∙ sym (value-other (s .stack) e i noWriter (omega arith));
+            ∙ sym (value-other (s .stack) (topAt s) i noWriter (omega arith));
         marks = λ i p hi o.
-            k .marks i p (omega arith) (subst (λ (f : WriterPhase). Owns f p) (phase-other (s .stack) e i noWriter (omega arith)) o)
+            k .marks i p (omega arith) (subst (λ (f : WriterPhase). Owns f p) (phase-other (s .stack) (topAt s) i noWriter (omega arith)) o)
             ∙ ap (λ (w : BegunWriter). By (w .nth)) (sym (others-at (h .working) (k .many) i hi));
       }
 
   -- the values, where the top record holds no slot
   values' : ((p j : ℕ) → top s .phase ≡ Held p j → ⊥)
-      → Values (s .numbers) (s .values) (s .used) (N s) (S s) stack' e (place (R s) L) pc pt (s .counts .committed) (h .readings)
+      → Values (s .numbers) (s .values) (s .used) (N s) (S s) stack' (topAt s) (place (R s) L) pc pt (s .counts .committed) (h .readings)
   values' free =
       record {
         held = λ i hi.
-            rw (value-other (s .stack) e i noWriter (omega arith), phase-other (s .stack) e i noWriter (omega arith)) (b .values .held i (omega arith));
+            rw (value-other (s .stack) (topAt s) i noWriter (omega arith), phase-other (s .stack) (topAt s) i noWriter (omega arith)) (b .values .held i (omega arith));
         stored = λ p j hp hj new.
             b .values .stored p j hp hj
             (λ i hi z.
-            by-eq i e
+            by-eq i (topAt s)
             (λ y. free p j (ap (phaseAt (s .stack)) (sym y) ∙ z))
-            (λ k. new i (omega arith) (phase-other (s .stack) e i noWriter k ∙ z)));
+            (λ k. new i (omega arith) (phase-other (s .stack) (topAt s) i noWriter k ∙ z)));
       }
 
   -- n is the count of drops after the pop
-  balance' : (n : ℕ) → s .counts .dropped + early (top s .phase) ≡ n → s .counts .begun ≡ s .counts .taken + n + earlies stack' e
-  balance' n q = omega (arith, balance-top b deep room, earlies-above (s .stack) e e noWriter (omega arith))
+  balance' : (n : ℕ) → s .counts .dropped + early (top s .phase) ≡ n → s .counts .begun ≡ s .counts .taken + n + earlies stack' (topAt s)
+  balance' n q = omega (arith, balance-top b deep room, earlies-above (s .stack) (topAt s) (topAt s) noWriter (omega arith))
 
   filled-free : top s .phase ≡ phase.Filled → (p j : ℕ) → top s .phase ≡ Held p j → ⊥
   filled-free q p j z =
@@ -73,6 +70,8 @@ module _ {s : Ring} {h : History} {L : ℕ → ℕ} {pc pt a r0 gap : ℕ} (b : 
   pending-accounts q =
       record {
         sizes = b .sizes;
+        rooms = b .rooms;
+        cap = b .cap;
         numbers = b .numbers;
         sums = b .sums;
         values = values' (filled-free q);
@@ -82,13 +81,15 @@ module _ {s : Ring} {h : History} {L : ℕ → ℕ} {pc pt a r0 gap : ℕ} (b : 
         work = work';
         balance = balance' (s .counts .dropped) (omega (arith, ap early q));
         rightly = b .rightly;
-        four = length-set (s .stack) e noWriter ∙ b .four;
+        stackRoom = length-set (s .stack) (topAt s) noWriter ∙ b .stackRoom;
       }
 
   pub dropped-accounts : top s .phase ≡ phase.Want → Accounts (drop s) (onDropped h) L pc pt a r0 gap
   dropped-accounts q =
       record {
         sizes = b .sizes;
+        rooms = b .rooms;
+        cap = b .cap;
         numbers = b .numbers;
         sums = b .sums;
         values = values' (λ p j. early-not-held p j (ap early q));
@@ -98,7 +99,7 @@ module _ {s : Ring} {h : History} {L : ℕ → ℕ} {pc pt a r0 gap : ℕ} (b : 
         work = work';
         balance = balance' (s .counts .dropped + 1) (omega (arith, ap early q));
         rightly = b .rightly;
-        four = length-set (s .stack) e noWriter ∙ b .four;
+        stackRoom = length-set (s .stack) (topAt s) noWriter ∙ b .stackRoom;
       }
 
   -- ---- the outermost writer commits
@@ -163,6 +164,8 @@ module _ {s : Ring} {h : History} {L : ℕ → ℕ} {pc pt a r0 gap : ℕ} (b : 
     committed-accounts =
         record {
           sizes = b .sizes;
+          rooms = b .rooms;
+          cap = b .cap;
           numbers = b .numbers;
           sums = sums';
           values = record {
@@ -175,5 +178,5 @@ module _ {s : Ring} {h : History} {L : ℕ → ℕ} {pc pt a r0 gap : ℕ} (b : 
           work = work';
           balance = balance' (s .counts .dropped) (omega (arith, ap early q));
           rightly = b .rightly;
-          four = length-set (s .stack) e noWriter ∙ b .four;
+          stackRoom = length-set (s .stack) (topAt s) noWriter ∙ b .stackRoom;
         }

@@ -16,6 +16,8 @@ tail-accounts {s} {h} {L} {pc} {pt} b n full empty =
     let c = b .sums in
     record {
       sizes = b .sizes;
+      rooms = b .rooms;
+      cap = b .cap;
       numbers = b .numbers;
       sums = record {
         takenIs = omega (arith, c .takenIs);
@@ -42,5 +44,5 @@ tail-accounts {s} {h} {L} {pc} {pt} b n full empty =
       work = b .work;
       balance = b .balance;
       rightly = b .rightly;
-      four = b .four;
+      stackRoom = b .stackRoom;
     }

@@ -25,15 +25,12 @@ use Rattle.ring.proofs.accounts.Laws.{value-same, value-other, held-map
 use Rattle.ring.proofs.accounts.Phase.{early-not-held, unheld, balance-top, earlies-set}
 use Rattle.ring.proofs.accounts.Readings.{nthReading-before, nthReading-last}
 use Rattle.ring.proofs.accounts.Working.{latest-at}
-use Rattle.ring.proofs.control.Phase.{placed-le, tail-le}
+use Rattle.ring.proofs.control.Phase.{placed-le, tail-le, top-below}
 use Rattle.ring.proofs.order.Places.{place-once, place-le}
 use Rattle.ring.proofs.order.Records.{phase-same, phase-other}
 
 module _ {s : Ring} {h : History} {L : ℕ → ℕ} {pc pt a r0 gap : ℕ} (v : Control s L pc pt) (b : Accounts s h L pc pt a r0 gap) (deep : 1 ≤ s .depth)
     (want : top s .phase ≡ phase.Want) (room : usedOf s (T s) < S s) where
-  abbrev e : ℕ
-  e = topAt s
-
   abbrev P : ℕ → ℕ
   P = place (R s) L
 
@@ -58,10 +55,7 @@ module _ {s : Ring} {h : History} {L : ℕ → ℕ} {pc pt a r0 gap : ℕ} (v : 
   readings' = h .readings ++ (numbered (s .counts .taken) (latest (h .working)) false ∷ [])
 
   abbrev held : Writer
-  held = rephase (s .stack) e (Held (T s) (usedOf s (T s)))
-
-  e<len : e < length (s .stack)
-  e<len = omega (arith, v .depth)
+  held = rephase (s .stack) (topAt s) (Held (T s) (usedOf s (T s)))
 
   -- ---- used
 
@@ -92,7 +86,7 @@ module _ {s : Ring} {h : History} {L : ℕ → ℕ} {pc pt a r0 gap : ℕ} (v : 
   number-new =
       let z = b .sizes in
       let inside = cell-room (S s) (T s) u (omega (arith, tail-le v, z .pages)) (z .slots) (omega (arith, z .slots)) in
-      getD-set-same (s .numbers) at (s .counts .taken) 0 (omega (arith, z .numbers-room))
+      getD-set-same (s .numbers) at (s .counts .taken) 0 (omega (arith, b .rooms .numbers-room))
 
   number-at : (p j : ℕ) → p ≡ T s → j ≡ u → getD numbers' (cell (S s) p j) 0 ≡ s .counts .taken
   number-at p j z y = ap (λ (k : ℕ). getD numbers' (cell (S s) k j) 0) z ∙ ap (λ (k : ℕ). getD numbers' (cell (S s) (T s) k) 0) y ∙ number-new
@@ -101,7 +95,7 @@ module _ {s : Ring} {h : History} {L : ℕ → ℕ} {pc pt a r0 gap : ℕ} (v : 
   number-old p j hp hj =
       getD-set-other (s .numbers) at (cell (S s) p j) (s .counts .taken) 0
       (λ z.
-      let y = cell-once (S s) p (T s) j u (omega (arith, b .sizes .cap p hp)) room z in
+      let y = cell-once (S s) p (T s) j u (omega (arith, b .cap p hp)) room z in
       omega (arith, ap (usedOf s) (y .0), y .1))
 
   at-tail : (i : ℕ) → i ≤ N s → P i ≡ T s → i ≡ pt
@@ -160,7 +154,7 @@ module _ {s : Ring} {h : History} {L : ℕ → ℕ} {pc pt a r0 gap : ℕ} (v : 
   latest-value : latest (h .working) .value ≡ top s .value
   latest-value =
       let k = b .work in
-      ap (λ (w : BegunWriter). w .value) (latest-at (h .working) (k .many)) ∙ k .value e (omega arith)
+      ap (λ (w : BegunWriter). w .value) (latest-at (h .working) (k .many)) ∙ k .value (topAt s) (omega arith)
 
   value-new : valueOf readings' (s .counts .taken) ≡ top s .value
   value-new = ap (λ (x : Numbered). x .own .value) (nthReading-last (h .readings) new (s .counts .taken) size) ∙ latest-value
@@ -214,21 +208,21 @@ module _ {s : Ring} {h : History} {L : ℕ → ℕ} {pc pt a r0 gap : ℕ} (v : 
   abbrev Ok : ℕ → WriterPhase → Type 0
   Ok = HeldOk numbers' used' (S s) P pc pt (s .counts .committed) readings'
 
-  values-kept : Values numbers' (s .values) used' (N s) (S s) (set (s .stack) e held) (s .depth) P pc pt (s .counts .committed) readings'
+  values-kept : Values numbers' (s .values) used' (N s) (S s) (set (s .stack) (topAt s) held) (s .depth) P pc pt (s .counts .committed) readings'
   values-kept =
       record {
         held = λ i hi.
-            by-eq i e
+            by-eq i (topAt s)
             (λ z.
-            subst (λ (k : ℕ). Ok (storedAt (set (s .stack) e held) k) (phaseAt (set (s .stack) e held) k)) (sym z)
-            (rw (value-same (s .stack) e held e<len, phase-same (s .stack) e held e<len) new-holding))
+            subst (λ (k : ℕ). Ok (storedAt (set (s .stack) (topAt s) held) k) (phaseAt (set (s .stack) (topAt s) held) k)) (sym z)
+            (rw (value-same (s .stack) (topAt s) held (top-below v deep), phase-same (s .stack) (topAt s) held (top-below v deep)) new-holding))
             (λ n.
-            rw (value-other (s .stack) e i held n, phase-other (s .stack) e i held n)
+            rw (value-other (s .stack) (topAt s) i held n, phase-other (s .stack) (topAt s) i held n)
             (held-map (s .numbers) numbers' (s .used) used' (S s) P P pc pc pt pt (s .counts .committed) (s .counts .committed) (h .readings) readings' holding-kept
             (storedAt (s .stack) i) (phaseAt (s .stack) i) (b .values .held i hi)));
         stored = λ p j hp hj free.
             split p j hj
-            (λ z y. absurd (free e (omega arith) (phase-same (s .stack) e held e<len ∙ ap (λ (k : ℕ). Held k u) (sym z) ∙ ap (Held p) (sym y))))
+            (λ z y. absurd (free (topAt s) (omega arith) (phase-same (s .stack) (topAt s) held (top-below v deep) ∙ ap (λ (k : ℕ). Held k u) (sym z) ∙ ap (Held p) (sym y))))
             (λ o.
             b .values .stored p j hp o (unheld b deep (v .depth) held p j (early-not-held p j (ap early want)) free)
             ∙ sym (ap (valueOf readings') (number-old p j hp o) ∙ value-kept _ (b .numbers .below p j hp o)));
@@ -266,20 +260,14 @@ module _ {s : Ring} {h : History} {L : ℕ → ℕ} {pc pt a r0 gap : ℕ} (v : 
   cap-kept p hp =
       by-eq p (T s)
       (λ z. omega (arith, ap (λ (k : ℕ). getD used' k 0) z, used-same))
-      (λ n. omega (arith, used-other p n, b .sizes .cap p hp))
+      (λ n. omega (arith, used-other p n, b .cap p hp))
 
   pub reserved-accounts : Accounts (reserve (s .places .tail) (usedOf s (T s)) s) (onReserved (s .counts .taken) h) L pc pt a r0 gap
   reserved-accounts =
-      let z = b .sizes in
       record {
-        sizes = record {
-          pages = z .pages;
-          some = z .some;
-          slots = z .slots;
-          numbers-room = length-set (s .numbers) at (s .counts .taken) ∙ z .numbers-room;
-          values-room = z .values-room;
-          cap = cap-kept;
-        };
+        sizes = b .sizes;
+        rooms = record { numbers-room = length-set (s .numbers) at (s .counts .taken) ∙ b .rooms .numbers-room; values-room = b .rooms .values-room };
+        cap = cap-kept;
         numbers = numbers-kept;
         sums = sums-kept;
         values = values-kept;
@@ -288,9 +276,9 @@ module _ {s : Ring} {h : History} {L : ℕ → ℕ} {pc pt a r0 gap : ℕ} (v : 
             (λ lo y. y ∙ sym (used-other (R s) (off lo))) (s .reader .phase) (v .reader) (b .quiet);
         past = past-kept;
         ordered = ordered-kept;
-        work = work-top (h .marker) (s .stack) (s .depth) e held (h .working) e<len refl (λ i w. absurd w) (b .work);
+        work = work-top (h .marker) (s .stack) (s .depth) (topAt s) held (h .working) (top-below v deep) refl (λ i w. absurd w) (b .work);
         balance =
             omega (arith, balance-top b deep (v .depth), earlies-set b deep (v .depth) held, ap early want);
         rightly = b .rightly;
-        four = length-set (s .stack) e held ∙ b .four;
+        stackRoom = length-set (s .stack) (topAt s) held ∙ b .stackRoom;
       }

@@ -33,20 +33,24 @@ use Rattle.ring.proofs.order.Records.{reflag, phase-other, records-set}
 -- ---- words and numbers
 
 -- a flag changed leaves the page in each word
-pub next-same : (words : List ℕ) (x n f p : ℕ) → f < 4 → nextOf words x ≡ n → nextOf (set words x (4 * n + f)) p ≡ nextOf words p
+next-same : (words : List ℕ) (x n f p : ℕ) → f < 4 → nextOf words x ≡ n → nextOf (set words x (4 * n + f)) p ≡ nextOf words p
 next-same words x n f p hf q =
     by-lt x (length words)
     (λ lt. reflag words x n f lt hf q .next p)
     (λ ge. ap (λ (l : List ℕ). nextOf l p) (set-out words x (4 * n + f) ge))
 
 -- the page in a ring page's word
-pub ring-next : {words : List ℕ} {N R : ℕ} {L : ℕ → ℕ} → Links words N R L → (p : ℕ) → p ≤ N → p ≢ R → nextOf words p ≤ N
+ring-next : {words : List ℕ} {N R : ℕ} {L : ℕ → ℕ} → Links words N R L → (p : ℕ) → p ≤ N → p ≢ R → nextOf words p ≤ N
 ring-next k p hp hr =
     let o = k .cycle .onto p hp hr in
     rw (← o .2, k .linked .step (o .0)) (k .cycle .bound (suc (o .0)))
 
+-- the page in any word
+pub words-fit : {s : Ring} {L : ℕ → ℕ} {pc pt : ℕ} → Control s L pc pt → BoundsOf s → (p : ℕ) → p ≤ N s → nextOf (s .words) p ≤ N s
+words-fit {s} v k p hp = by-eq p (R s) (λ e. rw e (k .readerFits)) (ring-next (v .links) p hp)
+
 -- one element changed
-pub set-le : (l : List ℕ) (i a b : ℕ) → ((j : ℕ) → getD l j 0 ≤ b) → a ≤ b → (j : ℕ) → getD (set l i a) j 0 ≤ b
+set-le : (l : List ℕ) (i a b : ℕ) → ((j : ℕ) → getD l j 0 ≤ b) → a ≤ b → (j : ℕ) → getD (set l i a) j 0 ≤ b
 set-le l i a b old h j =
     by-lt i (length l)
     (λ lt. by-eq j i (λ e. rw (e, getD-set-same l i a 0 lt) h) (λ n. rw (getD-set-other l i j a 0 n) (old j)))
@@ -54,14 +58,11 @@ set-le l i a b old h j =
 
 -- ---- the words and the reader page change
 
-pub reworded : {N mode begun taken R R' : ℕ} {words words' numbers : List ℕ} {stack : List Writer} {depth : ℕ}
+reworded : {N mode begun taken R R' : ℕ} {words words' numbers : List ℕ} {stack : List Writer} {depth : ℕ}
     → Bounds N mode begun taken R words numbers stack depth → nextOf words' R' ≤ N → Bounds N mode begun taken R' words' numbers stack depth
 reworded k h = record { modeFits = k .modeFits; begunFits = k .begunFits; numbersFit = k .numbersFit; readerFits = h; aims = k .aims }
 
 module _ (s : Ring) (k : BoundsOf s) where
-  pub bounds-word : (words : List ℕ) → nextOf words (R s) ≤ N s → BoundsOf (withWords words s)
-  bounds-word words h = reworded k h
-
   -- one flag changed
   pub bounds-flag : (y n f : ℕ) → f < 4 → nextOf (s .words) y ≡ n → BoundsOf (withWords (set (s .words) y (4 * n + f)) s)
   bounds-flag y n f hf q = reworded k (rw (next-same (s .words) y n f (R s) hf q) (k .readerFits))

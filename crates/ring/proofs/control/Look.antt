@@ -8,8 +8,8 @@ use Rattle.ring.specs.State.{top, setPhase}
 use Rattle.ring.specs.declared.state.WriterPhase.the-variants as phase
 use Rattle.ring.specs.declared.state.Ring.{Ring}
 use Rattle.ring.proofs.invariant.Order.{N, S, R, T, C, nextOf, flagOf, usedOf, Mark, Push, place}
-use Rattle.ring.proofs.invariant.Control.{At, Free, headed, headless, RecordIn, HeadlessIn, FlagsIn, Control}
-use Rattle.ring.proofs.control.Phase.{newest-off, phase-control}
+use Rattle.ring.proofs.invariant.Control.{At, Free, headed, headless, HeadlessIn, FlagsIn, Control}
+use Rattle.ring.proofs.control.Phase.{owner-record, newest-off, phase-control}
 use Rattle.ring.proofs.order.Places.{place-once, place-next, last-next}
 
 module _ {s : Ring} {L : ℕ → ℕ} {pc pt : ℕ} (v : Control s L pc pt) (deep : 1 ≤ s .depth) (want : top s .phase ≡ phase.Want) (out : S s ≤ usedOf s (T s)) where
@@ -28,11 +28,9 @@ module _ {s : Ring} {L : ℕ → ℕ} {pc pt : ℕ} (v : Control s L pc pt) (dee
       let o = v .order in
       record { k = pt; lo = o .le; hi = omega arith; is = o .tailAt; full = omega (arith, o .cap) }
 
-  -- while there is no header mark, the tail page has the owner's mark, and is no reader page
+  -- while there is no header mark, the tail page has the owner's mark, and is not the reader page
   headless-flag : HeadlessIn s L pc → flagOf (s .words) (T s) ≡ 2
-  headless-flag o =
-      let r = subst (RecordIn s L pc pt) (o .owner) (v .records (o .a) (o .below)) in
-      ap (flagOf (s .words)) (o .tailed) ∙ r .1
+  headless-flag o = ap (flagOf (s .words)) (o .tailed) ∙ owner-record v o .1
 
   headless-off : HeadlessIn s L pc → T s ≢ R s
   headless-off o q = omega (arith, o .ahead, v .order .le, place-once (v .links .cycle) pt 0 (v .order .top) (omega arith) (v .order .tailAt ∙ q))

@@ -1,5 +1,5 @@
--- MARK keeps control. Shared and Retry change only the phase. Marked turns the order by one: t was the newest page and n the oldest, which is now the newest, empty; until the
--- owner's PROMOTE there is no header mark.
+-- MARK keeps control. Shared and Retry change only the phase. Marked turns the order by one: t was the newest page and n the oldest, which is now the newest, empty; until a
+-- PROMOTE puts one there, there is no header mark.
 -- Assumes nothing.
 use mathlib.Core.Path.{_≡_, refl, sym, ap, _∙_, subst}
 use mathlib.Core.Logic.{_≢_, inl, inr}
@@ -18,19 +18,20 @@ use Rattle.ring.proofs.Lists.{by-eq}
 use Rattle.ring.proofs.invariant.Order.{N, S, R, T, C, topAt, nextOf, flagOf, phaseAt, rephase, Mark, Promote, place, turn}
 use Rattle.ring.proofs.invariant.Control.{At, Moving, Marking, RecordOk, Owns, Free, Owners, Above, Flags, headless, Order, HeadedIn, Control}
 use Rattle.ring.proofs.control.Phase.{head-of, marked-not-last, owner-in, placed-le, top-below, top-ok, top-above, phase-control, want-control}
+use Rattle.ring.proofs.order.Lower.{spot-lower}
 use Rattle.ring.proofs.order.Places.{place-once, place-past, last-next, place-turn}
 use Rattle.ring.proofs.order.Records.{Reflag, reflag, flag-other, flag-apart, reflag-links, reflag-small, record-map, phase-same, records-set, owners-set, reader-map}
 use Rattle.ring.proofs.order.Turn.{turn-links}
 
-module _ {s : Ring} {L : ℕ → ℕ} {pc pt : ℕ} (v : Control s L pc pt) (deep : 1 ≤ s .depth) (t n : ℕ) (ph : top s .phase ≡ Mark t n) where
+module _ {s : Ring} {L : ℕ → ℕ} {pc pt : ℕ} (v : Control s L pc pt) (deep : 1 ≤ s .depth) (t n : ℕ) (phase-is : top s .phase ≡ Mark t n) where
   abbrev P : ℕ → ℕ
   P = place (R s) L
 
   free : Free (top s .phase)
-  free = subst Free (sym ph) (λ p o. o)
+  free = subst Free (sym phase-is) (λ p o. o)
 
   pub marking : Marking (s .used) (N s) (S s) P pc pt t
-  marking = top-ok v deep (Mark t n) ph
+  marking = top-ok v deep (Mark t n) phase-is
 
   -- ---- Retry and Shared
 
@@ -38,14 +39,14 @@ module _ {s : Ring} {L : ℕ → ℕ} {pc pt : ℕ} (v : Control s L pc pt) (dee
   retry-control = want-control v deep free
 
   pub shared-control : getD (s .words) t 0 ≡ 4 * n + 2 → Control (setPhase (Promote t n false) s) L pc pt
-  shared-control hw =
+  shared-control word-is =
       phase-control v deep (Promote t n false) free (λ p o. o)
       (record { spot = marking .spot; next = omega arith; notLast = marked-not-last (v .flags) t (omega arith) })
-      (λ o. subst (Above (P (N s - 1)) (P (N s))) ph (top-above v deep free o))
+      (λ o. subst (Above (P (N s - 1)) (P (N s))) phase-is (top-above v deep free o))
 
   -- ---- Marked
 
-  module _ (hw : getD (s .words) t 0 ≡ 4 * n + 1) where
+  module _ (word-is : getD (s .words) t 0 ≡ 4 * n + 1) where
     abbrev P' : ℕ → ℕ
     P' = place (R s) (turn L)
 
@@ -127,19 +128,11 @@ module _ {s : Ring} {L : ℕ → ℕ} {pc pt : ℕ} (v : Control s L pc pt) (dee
     seen-away : (x : ℕ) → At (s .used) (S s) P pc pt x → x ≢ n
     seen-away x a q = away (a .k) (omega (arith, commit-off, a .lo)) (omega (arith, a .hi, v .order .top)) (a .is ∙ q)
 
-    spot-kept : (x : ℕ) → At (s .used) (S s) P pc pt x → At used' (S s) P' (pc - 1) (N s - 1) x
-    spot-kept x a =
-        let two = commit-off in
-        let top = v .order .top in
-        record {
-          k = a .k - 1;
-          lo = omega (arith, a .lo);
-          hi = omega (arith, a .hi);
-          is = lower (a .k) (omega (arith, a .lo)) ∙ a .is;
-          full = getD-set-other (s .used) n x 0 0 (seen-away x a) ∙ a .full;
-        }
+    spot-kept : (x : ℕ) → At (s .used) (S s) P pc pt x → At used' (S s) P' (pc - 1) (pt - 1) x
+    spot-kept =
+        spot-lower (omega (arith, commit-off)) (λ i lo hi. lower i (omega (arith, commit-off))) (λ x a. getD-set-other (s .used) n x 0 0 (seen-away x a))
 
-    moving-kept : (x y : ℕ) → Moving (s .words) (s .used) (N s) (S s) P pc pt x y → Moving words' used' (N s) (S s) P' (pc - 1) (N s - 1) x y
+    moving-kept : (x y : ℕ) → Moving (s .words) (s .used) (N s) (S s) P pc pt x y → Moving words' used' (N s) (S s) P' (pc - 1) (pt - 1) x y
     moving-kept x y m =
         record {
           spot = spot-kept x (m .spot);
@@ -147,17 +140,17 @@ module _ {s : Ring} {L : ℕ → ℕ} {pc pt : ℕ} (v : Control s L pc pt) (dee
           notLast = λ q. seen-away x (m .spot) (q ∙ newest-now);
         }
 
-    marking-kept : (x : ℕ) → Marking (s .used) (N s) (S s) P pc pt x → Marking used' (N s) (S s) P' (pc - 1) (N s - 1) x
+    marking-kept : (x : ℕ) → Marking (s .used) (N s) (S s) P pc pt x → Marking used' (N s) (S s) P' (pc - 1) (pt - 1) x
     marking-kept x m = record { spot = spot-kept x (m .spot); room = λ q. absurd (seen-away x (m .spot) (q ∙ newest-now)) }
 
-    -- t had the header mark, so no record owns its mark
+    -- t's word had the header mark, so no record owns an update mark in it
     pub unowned : (i : ℕ) → i < s .depth → ¬ Owns (phaseAt (s .stack) i) t
     unowned i hi o = omega (arith, owner-in v i t hi o .2)
 
     owned-kept : (i p : ℕ) → i < s .depth → Owns (phaseAt (s .stack) i) p → flagOf words' p ≡ 2
     owned-kept i p hi o = flag-other reflagged p (λ q. unowned i hi (subst (Owns (phaseAt (s .stack) i)) q o)) ∙ owner-in v i p hi o .2
 
-    owner-ok : RecordOk words' used' (N s) (S s) P' (pc - 1) (N s - 1) (Promote t n true)
+    owner-ok : RecordOk words' used' (N s) (S s) P' (pc - 1) (pt - 1) (Promote t n true)
     owner-ok = (
       record {
         spot = spot-kept t (marking .spot);
@@ -202,13 +195,13 @@ module _ {s : Ring} {L : ℕ → ℕ} {pc pt : ℕ} (v : Control s L pc pt) (dee
 
     -- ---- order
 
-    order-kept : Order used' (N s) (S s) (T s) (C s) P' (pc - 1) (N s - 1)
+    order-kept : Order used' (N s) (S s) (T s) (C s) P' (pc - 1) (pt - 1)
     order-kept =
         let two = commit-off in
         let last = tail-newest in
         let o = v .order in
         record {
-          tailAt = tail-now ∙ sym tail-is;
+          tailAt = lower pt (omega (arith, o .le)) ∙ o .tailAt;
           commitAt = lower pc two ∙ o .commitAt;
           le = omega (arith, o .le);
           top = omega arith;
@@ -223,7 +216,7 @@ module _ {s : Ring} {L : ℕ → ℕ} {pc pt : ℕ} (v : Control s L pc pt) (dee
               rw (q, newest-now) (getD-set-same (s .used) n 0 0 (omega (arith, o .room, n≤N)));
         }
 
-    pub marked-control : Control (mark (page t) (page n) s) (turn L) (pc - 1) (N s - 1)
+    pub marked-control : Control (mark (page t) (page n) s) (turn L) (pc - 1) (pt - 1)
     marked-control =
         record {
           links = turn-links (reflag-links reflagged (v .links));
@@ -233,7 +226,7 @@ module _ {s : Ring} {L : ℕ → ℕ} {pc pt : ℕ} (v : Control s L pc pt) (dee
           owners = owners-kept;
           depth = rw (length-set (s .stack) (topAt s) owner) (v .depth);
           records =
-              records-set (RecordOk words' used' (N s) (S s) P' (pc - 1) (N s - 1)) (s .stack) (s .depth) (topAt s) owner (top-below v deep)
+              records-set (RecordOk words' used' (N s) (S s) P' (pc - 1) (pt - 1)) (s .stack) (s .depth) (topAt s) owner (top-below v deep)
               (λ i hi ne. record-map moving-kept marking-kept (phaseAt (s .stack) i) (λ p o. owned-kept i p hi o) (v .records i hi)) owner-ok;
           reader =
               reader-map (s .words) words' (N s) (R s) pc (pc - 1) (λ h. omega (arith, commit-off)) (λ h. reflagged .other (R s) (λ q. t≢R (sym q)))

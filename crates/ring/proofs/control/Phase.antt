@@ -1,7 +1,8 @@
--- What the top record's phase tells, and that control is kept where only this phase changes.
+-- What the top record's phase tells, where the tail, the commit and the newest page stand, and that control is kept where only this phase changes.
 -- Assumes nothing.
 use mathlib.Core.Path.{_≡_, refl, sym, ap, _∙_, subst}
 use mathlib.Core.Logic.{_≢_, inr}
+use mathlib.Core.Bool.{true}
 use mathlib.Core.List.{List}
 use Prim.Native.Nat.{ℕ, _-_, _≤_, _<_}
 use native.Mathlib.Omega.{arith}
@@ -12,16 +13,22 @@ use Rattle.ring.specs.declared.state.WriterPhase.the-variants as phase
 use Rattle.ring.specs.declared.state.Writer.{Writer}
 use Rattle.ring.specs.declared.state.Ring.{Ring}
 use Rattle.ring.proofs.Lists.{by-eq}
-use Rattle.ring.proofs.invariant.Order.{N, S, R, T, C, topAt, flagOf, phaseAt, rephase, place}
-use Rattle.ring.proofs.invariant.Control.{At, Owns, Free, Owners, Above, Headed, Flags, headed, headless, RecordIn, HeadedIn, HeadlessIn, FlagsIn, Control}
+use Rattle.ring.proofs.invariant.Order.{N, S, R, T, C, topAt, flagOf, phaseAt, rephase, Promote, place}
+use Rattle.ring.proofs.invariant.Control.{At, Owns, Free, Owners, Above, Headed, Headless, Flags, headed, headless, RecordIn, HeadedIn, HeadlessIn, FlagsIn, Control}
 use Rattle.ring.proofs.order.Places.{place-le, place-off}
 use Rattle.ring.proofs.order.Records.{owner-at, phase-same, phase-other, records-set, owners-set}
 
--- a page that is no reader page and has the header mark: there is one header mark
+-- a ring page has the header mark, so there is exactly one
 pub head-of : {words : List ℕ} {N : ℕ} {P : ℕ → ℕ} {tail pc : ℕ} {stack : List Writer} {depth : ℕ} → Flags words N P tail pc stack depth → (p : ℕ) → p ≤ N → p ≢ P 0
     → flagOf words p ≡ 1 → Headed words N P
 head-of (headed h) p hp pr f = h
 head-of (headless o) p hp pr f = absurd (o .none p hp pr f)
+
+-- the two states exclude each other
+pub headed-unless : {words : List ℕ} {N : ℕ} {P : ℕ → ℕ} {tail pc : ℕ} {stack : List Writer} {depth : ℕ} → Flags words N P tail pc stack depth
+    → ¬ Headless words N P tail pc stack depth → Headed words N P
+headed-unless (headed h) never = h
+headed-unless (headless o) never = absurd (never o)
 
 -- a page with the update mark is not the newest
 pub marked-not-last : {words : List ℕ} {N : ℕ} {P : ℕ → ℕ} {tail pc : ℕ} {stack : List Writer} {depth : ℕ} → Flags words N P tail pc stack depth → (t : ℕ)
@@ -37,7 +44,7 @@ module _ {s : Ring} {L : ℕ → ℕ} {pc pt : ℕ} (v : Control s L pc pt) wher
   pub owner-in : (i p : ℕ) → i < s .depth → Owns (phaseAt (s .stack) i) p → At (s .used) (S s) P pc pt p × (p ≢ P (N s)) × (flagOf (s .words) p ≡ 2)
   owner-in i p hi o = owner-at (s .words) (s .used) (N s) (S s) P pc pt (phaseAt (s .stack) i) p (v .records i hi) o
 
-  -- a page by its place; the tail page and the commit page have one
+  -- a page that has a place is at most N; so are the tail page and the commit page
   pub placed-le : (i p : ℕ) → P i ≡ p → p ≤ N s
   placed-le i p q = rw (← q) (place-le (v .links .cycle) i)
 
@@ -46,6 +53,10 @@ module _ {s : Ring} {L : ℕ → ℕ} {pc pt : ℕ} (v : Control s L pc pt) wher
 
   pub commit-le : C s ≤ N s
   commit-le = placed-le pc (C s) (v .order .commitAt)
+
+  -- the owner's record, while there is no header mark
+  pub owner-record : (o : HeadlessIn s L pc) → RecordIn s L pc pt (Promote (P (N s - 1)) (P (N s)) true)
+  owner-record o = subst (RecordIn s L pc pt) (o .owner) (v .records (o .a) (o .below))
 
   pub newest-off : P (N s) ≢ R s
   newest-off = place-off (v .links .cycle) (N s) (omega (arith, v .links .cycle .two))
@@ -69,16 +80,12 @@ module _ {s : Ring} {L : ℕ → ℕ} {pc pt : ℕ} (v : Control s L pc pt) wher
 
     -- where it can't stand there, there is one header mark
     pub headed-by : Free (top s .phase) → ((t n : ℕ) → Above t n (top s .phase) → ⊥) → HeadedIn s L
-    headed-by free never = go (v .flags)
-      where
-        go : FlagsIn s L pc → HeadedIn s L
-        go (headed h) = h
-        go (headless o) = absurd (never _ _ (top-above free o))
+    headed-by free never = headed-unless (v .flags) (λ o. never _ _ (top-above free o))
 
     -- ---- the top record replaced by w
 
     -- the owner below it stays, and w may stand above it
-    pub flags-set : (w : Writer) → Free (top s .phase) → (HeadlessIn s L pc → Above (P (N s - 1)) (P (N s)) (w .phase)) → FlagsIn s L pc
+    flags-set : (w : Writer) → Free (top s .phase) → (HeadlessIn s L pc → Above (P (N s - 1)) (P (N s)) (w .phase)) → FlagsIn s L pc
         → Flags (s .words) (N s) P (T s) pc (set (s .stack) (topAt s) w) (s .depth)
     flags-set w free fit (headed h) = headed h
     flags-set w free fit (headless o) =

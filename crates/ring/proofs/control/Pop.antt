@@ -52,8 +52,8 @@ module _ {s : Ring} {L : ℕ → ℕ} {pc pt : ℕ} (v : Control s L pc pt) (dee
         one = λ i j p hi hj a b. v .owners .one i j p (omega arith) (omega arith) (rw (below-top i hi) at a) (rw (below-top j hj) at b);
       }
 
-  -- Pending, and what Dropped and Committed have of it
-  pub popped-control : Free (top s .phase) → Control (pop s) L pc pt
+  -- the pop alone: all of Pending, and what it does in Dropped and Committed
+  popped-control : Free (top s .phase) → Control (pop s) L pc pt
   popped-control free =
       record {
         links = v .links;
@@ -84,7 +84,7 @@ module _ {s : Ring} {L : ℕ → ℕ} {pc pt : ℕ} (v : Control s L pc pt) (dee
         reader = u .reader;
       }
 
-  -- the last record goes: no record has seen a page, and there is a header mark
+  -- the only record goes: no record is left, and there is a header mark
   pub committed-control : top s .phase ≡ phase.Filled → s .depth ≡ 1 → Control (commit s) L pt pt
   committed-control ph one =
       let free : Free (top s .phase) = subst Free (sym ph) (λ p o. o) in

@@ -10,12 +10,11 @@ use lib.Seq.{getD-set-same, getD-set-other}
 use Rattle.ring.specs.State.{page}
 use Rattle.ring.specs.Read.{prepare}
 use Rattle.ring.specs.declared.state.Ring.{Ring}
-use Rattle.ring.proofs.Lists.{by-eq}
 use Rattle.ring.proofs.invariant.Order.{N, S, R, T, nextOf, flagOf, phaseAt, Found, place}
-use Rattle.ring.proofs.invariant.Control.{At, RecordOk, Owners, Flags, headed, headless, ReaderOk, FlagsIn, Control}
+use Rattle.ring.proofs.invariant.Control.{At, RecordOk, Flags, headed, headless, ReaderOk, FlagsIn, Control}
 use Rattle.ring.proofs.control.Phase.{owner-in, newest-off}
 use Rattle.ring.proofs.order.Places.{place-off}
-use Rattle.ring.proofs.order.Records.{record-map}
+use Rattle.ring.proofs.order.Records.{record-map, owners-word}
 
 module _ {s : Ring} {L : ℕ → ℕ} {pc pt : ℕ} (v : Control s L pc pt) (p h : ℕ) (found : s .reader .phase ≡ Found p h) where
   abbrev P : ℕ → ℕ
@@ -24,8 +23,8 @@ module _ {s : Ring} {L : ℕ → ℕ} {pc pt : ℕ} (v : Control s L pc pt) (p h
   abbrev words' : List ℕ
   words' = set (s .words) (R s) (4 * nextOf (s .words) h + 1)
 
-  ok : ReaderOk (s .words) (N s) (R s) pc (Found p h)
-  ok = subst (ReaderOk (s .words) (N s) (R s) pc) found (v .reader)
+  reader-ok : ReaderOk (s .words) (N s) (R s) pc (Found p h)
+  reader-ok = subst (ReaderOk (s .words) (N s) (R s) pc) found (v .reader)
 
   here : getD words' (R s) 0 ≡ 4 * nextOf (s .words) h + 1
   here = getD-set-same (s .words) (R s) _ 0 (omega (arith, v .links .linked .room, v .links .cycle .reader))
@@ -41,7 +40,7 @@ module _ {s : Ring} {L : ℕ → ℕ} {pc pt : ℕ} (v : Control s L pc pt) (p h
 
   -- the commit page is another, so no record has seen the reader page
   seen-off : (x : ℕ) → At (s .used) (S s) P pc pt x → x ≢ R s
-  seen-off x a q = place-off (v .links .cycle) (a .k) (omega (arith, a .lo, ok .0)) (a .is ∙ q)
+  seen-off x a q = place-off (v .links .cycle) (a .k) (omega (arith, a .lo, reader-ok .0)) (a .is ∙ q)
 
   flags-kept : FlagsIn s L pc → Flags words' (N s) P (T s) pc (s .stack) (s .depth)
   flags-kept (headed g) =
@@ -60,20 +59,6 @@ module _ {s : Ring} {L : ℕ → ℕ} {pc pt : ℕ} (v : Control s L pc pt) (p h
         owner = o .owner;
         above = o .above;
       })
-
-  owners-kept : Owners words' (N s) (s .stack) (s .depth)
-  owners-kept =
-      record {
-        small = λ q hq.
-            by-eq q (R s)
-            (λ e. omega (arith, here, ap (flagOf words') e))
-            (λ n. omega (arith, same-flag q n, v .owners .small q hq));
-        some = λ q hq f.
-            by-eq q (R s)
-            (λ e. absurd (omega (arith, here, ap (flagOf words') e)))
-            (λ n. v .owners .some q hq (sym (same-flag q n) ∙ f));
-        one = v .owners .one;
-      }
 
   record-kept : (i : ℕ) → i < s .depth → RecordOk words' (s .used) (N s) (S s) P pc pt (phaseAt (s .stack) i)
   record-kept i hi =
@@ -97,10 +82,10 @@ module _ {s : Ring} {L : ℕ → ℕ} {pc pt : ℕ} (v : Control s L pc pt) (p h
           };
         };
         order = v .order;
-        joined = λ z. absurd (omega (arith, ok .0));
+        joined = λ z. absurd (omega (arith, reader-ok .0));
         flags = flags-kept (v .flags);
-        owners = owners-kept;
+        owners = owners-word (v .owners) words' (R s) same-flag (omega (arith, here));
         depth = v .depth;
         records = record-kept;
-        reader = (ok .0, ok .1, ok .2, ok .3, ok .4, here ∙ ap (λ (w : ℕ). 4 * w + 1) (sym (same-next h (ok .4))));
+        reader = (reader-ok .0, reader-ok .1, reader-ok .2, reader-ok .3, reader-ok .4, here ∙ ap (λ (w : ℕ). 4 * w + 1) (sym (same-next h (reader-ok .4))));
       }

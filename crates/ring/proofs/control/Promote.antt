@@ -22,13 +22,19 @@ use Rattle.ring.proofs.order.Records.{Reflag, reflag, flag-other, flag-
 
 -- ---- the phase after PROMOTE owns what PROMOTE does
 
-own-same : (own : Bool) (t n p : ℕ) → Owns (afterPromote (page t) (page n) own) p → Owns (Promote t n own) p
-own-same true t n p q = q
-own-same false t n p q = q
+pub own-after : (own : Bool) (t n p : ℕ) → Owns (afterPromote (page t) (page n) own) p → Owns (Promote t n own) p
+own-after true t n p q = q
+own-after false t n p q = q
 
 own-or : (own : Bool) (t n p : ℕ) → Owns (afterPromote (page t) (page n) own) p ⊎ ¬ Owns (Promote t n own) p
 own-or true t n p = by-eq t p (λ q. inl q) (λ q. inr q)
 own-or false t n p = inr (λ q. q)
+
+-- and is right where PROMOTE is
+after-ok : (words used : List ℕ) (N S : ℕ) (P : ℕ → ℕ) (pc pt : ℕ) (own : Bool) (t n : ℕ) → RecordOk words used N S P pc pt (Promote t n own)
+    → RecordOk words used N S P pc pt (afterPromote (page t) (page n) own)
+after-ok words used N S P pc pt true t n r = r
+after-ok words used N S P pc pt false t n r = r
 
 -- ---- (t, n) of the record, where it is the owner or above it
 
@@ -42,38 +48,30 @@ above-pages : (a b t n : ℕ) (own : Bool) → Above a b (Promote t n own) → (
 above-pages a b t n true q = absurd q
 above-pages a b t n false q = q
 
-module _ {s : Ring} {L : ℕ → ℕ} {pc pt : ℕ} (v : Control s L pc pt) (deep : 1 ≤ s .depth) (t n : ℕ) (own : Bool) (ph : top s .phase ≡ Promote t n own) where
+module _ {s : Ring} {L : ℕ → ℕ} {pc pt : ℕ} (v : Control s L pc pt) (deep : 1 ≤ s .depth) (t n : ℕ) (own : Bool) (phase-is : top s .phase ≡ Promote t n own) where
   abbrev P : ℕ → ℕ
   P = place (R s) L
 
   abbrev next : WriterPhase
   next = afterPromote (page t) (page n) own
 
-  abbrev w : Writer
-  w = rephase (s .stack) (topAt s) (afterPromote (page t) (page n) own)
+  abbrev promoted : Writer
+  promoted = rephase (s .stack) (topAt s) (afterPromote (page t) (page n) own)
 
-  old : RecordIn s L pc pt (Promote t n own)
-  old = top-ok v deep (Promote t n own) ph
-
-  -- the new phase is right where the old one was
-  after-ok : (A : WriterPhase → Type 0) → ((b : Bool) → A (Promote t n b) → A (afterPromote (page t) (page n) b)) → A (top s .phase) → A next
-  after-ok A up x = up own (subst A ph x)
+  before : RecordIn s L pc pt (Promote t n own)
+  before = top-ok v deep (Promote t n own) phase-is
 
   -- ---- owners of marks
 
-  -- a mark of the old words is the record's own still, or was not its own
+  -- a mark of the before words is the record's own still, or was not its own
   source : (p : ℕ) → flagOf (s .words) p ≡ 2 → Owns next p ⊎ ((flagOf (s .words) p ≡ 2) × ¬ Owns (top s .phase) p)
-  source p f = ⊎-elim (λ q. inl q) (λ q. inr (f, subst (λ (x : WriterPhase). ¬ Owns x p) (sym ph) q)) (own-or own t n p)
+  source p f = ⊎-elim (λ q. inl q) (λ q. inr (f, subst (λ (x : WriterPhase). ¬ Owns x p) (sym phase-is) q)) (own-or own t n p)
 
   alone : (p j : ℕ) → j < s .depth → j ≢ topAt s → Owns next p → Owns (phaseAt (s .stack) j) p → ⊥
   alone p j hj nj q u =
-      nj (v .owners .one j (topAt s) p hj (omega arith) u (subst (λ (x : WriterPhase). Owns x p) (sym ph) (own-same own t n p q)))
+      nj (v .owners .one j (topAt s) p hj (omega arith) u (subst (λ (x : WriterPhase). Owns x p) (sym phase-is) (own-after own t n p q)))
 
   -- ---- Standing
-
-  standing-ok : (b : Bool) → RecordIn s L pc pt (Promote t n b) → RecordIn s L pc pt (afterPromote (page t) (page n) b)
-  standing-ok true r = r
-  standing-ok false r = r
 
   pub standing-control : HeadedIn s L → Control (setPhase (afterPromote (page t) (page n) own) s) L pc pt
   standing-control h =
@@ -82,9 +80,9 @@ module _ {s : Ring} {L : ℕ → ℕ} {pc pt : ℕ} (v : Control s L pc pt) (dee
         order = v .order;
         joined = v .joined;
         flags = headed h;
-        owners = owners-set (s .stack) (topAt s) w (v .owners) (omega arith) (top-below v deep) (v .owners .small) (λ p hp f. source p f) alone;
-        depth = rw (length-set (s .stack) (topAt s) w) (v .depth);
-        records = records-set (RecordIn s L pc pt) (s .stack) (s .depth) (topAt s) w (top-below v deep) (λ i hi ne. v .records i hi) (standing-ok own old);
+        owners = owners-set (s .stack) (topAt s) promoted (v .owners) (omega arith) (top-below v deep) (v .owners .small) (λ p hp f. source p f) alone;
+        depth = rw (length-set (s .stack) (topAt s) promoted) (v .depth);
+        records = records-set (RecordIn s L pc pt) (s .stack) (s .depth) (topAt s) promoted (top-below v deep) (λ i hi ne. v .records i hi) (after-ok (s .words) (s .used) (N s) (S s) P pc pt own t n before);
         reader = v .reader;
       }
 
@@ -94,8 +92,8 @@ module _ {s : Ring} {L : ℕ → ℕ} {pc pt : ℕ} (v : Control s L pc pt) (dee
     abbrev words' : List ℕ
     words' = set (s .words) n (4 * nextOf (s .words) n + 1)
 
-    gap : HeadlessIn s L pc
-    gap = go (v .flags)
+    no-head : HeadlessIn s L pc
+    no-head = go (v .flags)
       where
         go : FlagsIn s L pc → HeadlessIn s L pc
         go (headed h) = absurd (none (P (N s)) (place-le (v .links .cycle) (N s)) (newest-off v) (h .last))
@@ -103,9 +101,9 @@ module _ {s : Ring} {L : ℕ → ℕ} {pc pt : ℕ} (v : Control s L pc pt) (dee
 
     pages : (t ≡ P (N s - 1)) × (n ≡ P (N s))
     pages =
-        by-eq (gap .a) (topAt s)
-        (λ q. owner-pages _ _ t n own (sym ph ∙ ap (phaseAt (s .stack)) (sym q) ∙ gap .owner))
-        (λ q. above-pages _ _ t n own (subst (Above (P (N s - 1)) (P (N s))) ph (gap .above (topAt s) (omega (arith, gap .below)) (omega arith))))
+        by-eq (no-head .a) (topAt s)
+        (λ q. owner-pages _ _ t n own (sym phase-is ∙ ap (phaseAt (s .stack)) (sym q) ∙ no-head .owner))
+        (λ q. above-pages _ _ t n own (subst (Above (P (N s - 1)) (P (N s))) phase-is (no-head .above (topAt s) (omega (arith, no-head .below)) (omega arith))))
 
     n-newest : n ≡ P (N s)
     n-newest = pages .1
@@ -131,13 +129,9 @@ module _ {s : Ring} {L : ℕ → ℕ} {pc pt : ℕ} (v : Control s L pc pt) (dee
         flag-other reflagged p (λ q. k .1 (q ∙ n-newest)) ∙ k .2)
         (v .records i hi)
 
-    promoted-ok : (b : Bool) → RecordOk words' (s .used) (N s) (S s) P pc pt (Promote t n b) → RecordOk words' (s .used) (N s) (S s) P pc pt (afterPromote (page t) (page n) b)
-    promoted-ok true r = r
-    promoted-ok false r = r
-
-    owners-kept : Owners words' (N s) (set (s .stack) (topAt s) w) (s .depth)
+    owners-kept : Owners words' (N s) (set (s .stack) (topAt s) promoted) (s .depth)
     owners-kept =
-        owners-set (s .stack) (topAt s) w (v .owners) (omega arith) (top-below v deep)
+        owners-set (s .stack) (topAt s) promoted (v .owners) (omega arith) (top-below v deep)
         (reflag-small reflagged (omega arith) (v .owners .small))
         (λ p hp f. source p (sym (flag-other reflagged p (flag-apart reflagged p 2 (λ z. omega arith) f)) ∙ f))
         alone
@@ -147,16 +141,16 @@ module _ {s : Ring} {L : ℕ → ℕ} {pc pt : ℕ} (v : Control s L pc pt) (dee
         record {
           links = reflag-links reflagged (v .links);
           order = v .order;
-          joined = λ q. absurd (omega (arith, gap .ahead));
+          joined = λ q. absurd (omega (arith, no-head .ahead));
           flags = headed (record {
             last = ap (flagOf words') (sym n-newest) ∙ reflagged .here;
             only = λ p hp pr f. by-eq p n (λ q. q ∙ n-newest) (λ q. absurd (none p hp pr (sym (flag-other reflagged p q) ∙ f)));
           });
           owners = owners-kept;
-          depth = rw (length-set (s .stack) (topAt s) w) (v .depth);
+          depth = rw (length-set (s .stack) (topAt s) promoted) (v .depth);
           records =
-              records-set (RecordOk words' (s .used) (N s) (S s) P pc pt) (s .stack) (s .depth) (topAt s) w (top-below v deep) (λ i hi ne. record-kept i hi)
-              (after-ok (RecordOk words' (s .used) (N s) (S s) P pc pt) promoted-ok (record-kept (topAt s) (omega arith)));
+              records-set (RecordOk words' (s .used) (N s) (S s) P pc pt) (s .stack) (s .depth) (topAt s) promoted (top-below v deep) (λ i hi ne. record-kept i hi)
+              (after-ok words' (s .used) (N s) (S s) P pc pt own t n (subst (RecordOk words' (s .used) (N s) (S s) P pc pt) phase-is (record-kept (topAt s) (omega arith))));
           reader =
               reader-map (s .words) words' (N s) (R s) pc pc (λ h. h) (λ h. reflagged .other (R s) (λ q. n≢R (sym q))) (reflagged .next) (s .reader .phase) (v .reader);
         }

@@ -17,18 +17,18 @@ use Rattle.ring.proofs.control.Phase.{owner-in, top-below, top-ok, head
 use Rattle.ring.proofs.order.Places.{place-next}
 use Rattle.ring.proofs.order.Records.{record-map, records-set}
 
-module _ {s : Ring} {L : ℕ → ℕ} {pc pt : ℕ} (v : Control s L pc pt) (deep : 1 ≤ s .depth) (t n : ℕ) (ph : top s .phase ≡ Push t n) where
+module _ {s : Ring} {L : ℕ → ℕ} {pc pt : ℕ} (v : Control s L pc pt) (deep : 1 ≤ s .depth) (t n : ℕ) (phase-is : top s .phase ≡ Push t n) where
   abbrev P : ℕ → ℕ
   P = place (R s) L
 
   free : Free (top s .phase)
-  free = subst Free (sym ph) (λ p o. o)
+  free = subst Free (sym phase-is) (λ p o. o)
 
   pub passed-control : Control (setPhase phase.Want s) L pc pt
   passed-control = want-control v deep free
 
   pub moving : Moving (s .words) (s .used) (N s) (S s) P pc pt t n
-  moving = top-ok v deep (Push t n) ph
+  moving = top-ok v deep (Push t n) phase-is
 
   -- ---- Pushed
 
@@ -36,7 +36,7 @@ module _ {s : Ring} {L : ℕ → ℕ} {pc pt : ℕ} (v : Control s L pc pt) (dee
     tail-place : P pt ≡ t
     tail-place = v .order .tailAt ∙ tail
 
-    pub tail-below : pt < N s
+    tail-below : pt < N s
     tail-below =
         let apart : pt ≢ N s = λ q. moving .notLast (sym tail-place ∙ ap P q) in
         omega (arith, v .order .top)
@@ -47,7 +47,7 @@ module _ {s : Ring} {L : ℕ → ℕ} {pc pt : ℕ} (v : Control s L pc pt) (dee
         (λ q. rw q (v .joined (omega arith) .next))
         (λ q. place-next (v .links) i (omega arith))
 
-    pub tail-now : P (suc pt) ≡ n
+    tail-now : P (suc pt) ≡ n
     tail-now = sym (next-place pt (v .order .le)) ∙ ap (nextOf (s .words)) tail-place ∙ moving .next
 
     spot-kept : (x : ℕ) → At (s .used) (S s) P pc pt x → At (s .used) (S s) P pc (suc pt) x
@@ -90,7 +90,7 @@ module _ {s : Ring} {L : ℕ → ℕ} {pc pt : ℕ} (v : Control s L pc pt) (dee
           links = v .links;
           order = order-kept;
           joined = v .joined;
-          flags = headed (headed-by v deep free (λ a b. subst (λ (x : WriterPhase). Above a b x → ⊥) (sym ph) (λ o. o)));
+          flags = headed (headed-by v deep free (λ a b. subst (λ (x : WriterPhase). Above a b x → ⊥) (sym phase-is) (λ o. o)));
           owners = owners-free v deep w free (λ p o. o);
           depth = rw (length-set (s .stack) (topAt s) w) (v .depth);
           records =

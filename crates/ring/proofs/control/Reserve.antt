@@ -13,8 +13,8 @@ use Rattle.ring.specs.declared.state.WriterPhase.{WriterPhase}
 use Rattle.ring.specs.declared.state.WriterPhase.the-variants as phase
 use Rattle.ring.specs.declared.state.Ring.{Ring}
 use Rattle.ring.proofs.invariant.Order.{N, S, R, T, C, topAt, flagOf, usedOf, phaseAt, rephase, Held, place}
-use Rattle.ring.proofs.invariant.Control.{At, RecordOk, Owns, Free, headed, headless, Order, RecordIn, HeadedIn, FlagsIn, Control}
-use Rattle.ring.proofs.control.Phase.{owner-in, tail-le, top-below, owners-free}
+use Rattle.ring.proofs.invariant.Control.{At, RecordOk, Owns, Free, headed, Order, RecordIn, HeadedIn, Control}
+use Rattle.ring.proofs.control.Phase.{headed-unless, owner-in, tail-le, owner-record, top-below, owners-free}
 use Rattle.ring.proofs.order.Places.{place-once}
 use Rattle.ring.proofs.order.Records.{record-map, records-set}
 
@@ -27,13 +27,7 @@ module _ {s : Ring} {L : ℕ → ℕ} {pc pt : ℕ} (v : Control s L pc pt) (dee
 
   -- without a header mark the tail page would be the owner's, and full
   head : HeadedIn s L
-  head = go (v .flags)
-    where
-      go : FlagsIn s L pc → HeadedIn s L
-      go (headed h) = h
-      go (headless o) =
-          let r = subst (RecordIn s L pc pt) (o .owner) (v .records (o .a) (o .below)) in
-          absurd (omega (arith, ap (usedOf s) (o .tailed), r .0 .spot .full))
+  head = headed-unless (v .flags) (λ o. omega (arith, ap (usedOf s) (o .tailed), owner-record v o .0 .spot .full))
 
   kept : (p : ℕ) → p ≢ T s → getD used' p 0 ≡ usedOf s p
   kept p n = getD-set-other (s .used) (T s) p _ 0 n

@@ -13,13 +13,14 @@ use Rattle.ring.specs.Read.{swap}
 use Rattle.ring.specs.declared.state.Ring.{Ring}
 use Rattle.ring.proofs.Lists.{by-eq, by-lt}
 use Rattle.ring.proofs.invariant.Order.{N, S, R, T, C, nextOf, flagOf, usedOf, phaseAt, Ready, place, swapped}
-use Rattle.ring.proofs.invariant.Control.{At, Moving, Marking, RecordOk, Owners, Headed, headed, Order, Joined, ReaderOk, HeadedIn, Control}
+use Rattle.ring.proofs.invariant.Control.{At, Moving, Marking, RecordOk, Headed, headed, Order, Joined, ReaderOk, HeadedIn, Control}
 use Rattle.ring.proofs.control.Phase.{head-of, owner-in}
+use Rattle.ring.proofs.order.Lower.{spot-lower}
 use Rattle.ring.proofs.order.Places.{place-once, place-off, last-next, place-swap, place-swap-last}
-use Rattle.ring.proofs.order.Records.{record-map}
+use Rattle.ring.proofs.order.Records.{record-map, owners-word}
 use Rattle.ring.proofs.order.Swap.{swap-links}
 
-module _ {s : Ring} {L : ℕ → ℕ} {pc pt : ℕ} (v : Control s L pc pt) (p h : ℕ) (ready : s .reader .phase ≡ Ready p h) (hw : getD (s .words) p 0 ≡ 4 * h + 1) where
+module _ {s : Ring} {L : ℕ → ℕ} {pc pt : ℕ} (v : Control s L pc pt) (p h : ℕ) (ready : s .reader .phase ≡ Ready p h) (word-is : getD (s .words) p 0 ≡ 4 * h + 1) where
   abbrev P : ℕ → ℕ
   P = place (R s) L
 
@@ -34,17 +35,17 @@ module _ {s : Ring} {L : ℕ → ℕ} {pc pt : ℕ} (v : Control s L pc pt) (p h
 
   -- ---- which pages p and h are
 
-  ok : ReaderOk (s .words) (N s) (R s) pc (Ready p h)
-  ok = subst (ReaderOk (s .words) (N s) (R s) pc) ready (v .reader)
+  reader-ok : ReaderOk (s .words) (N s) (R s) pc (Ready p h)
+  reader-ok = subst (ReaderOk (s .words) (N s) (R s) pc) ready (v .reader)
 
   pub commit-ahead : 1 ≤ pc
-  commit-ahead = ok .0
+  commit-ahead = reader-ok .0
 
   head : HeadedIn s L
-  head = head-of (v .flags) p (ok .1) (ok .2) (omega arith)
+  head = head-of (v .flags) p (reader-ok .1) (reader-ok .2) (omega arith)
 
   p-newest : p ≡ P (N s)
-  p-newest = head .only p (ok .1) (ok .2) (omega arith)
+  p-newest = head .only p (reader-ok .1) (reader-ok .2) (omega arith)
 
   to-oldest : nextOf (s .words) p ≡ L 0
   to-oldest = ap (nextOf (s .words)) p-newest ∙ last-next (v .links)
@@ -56,7 +57,7 @@ module _ {s : Ring} {L : ℕ → ℕ} {pc pt : ℕ} (v : Control s L pc pt) (p h
 
   from-reader : nextOf (s .words) (R s) ≡ L 1
   from-reader =
-      let next : nextOf (s .words) (R s) ≡ nextOf (s .words) h = omega (arith, ok .5) in
+      let next : nextOf (s .words) (R s) ≡ nextOf (s .words) h = omega (arith, reader-ok .5) in
       next ∙ ap (nextOf (s .words)) h-oldest ∙ v .links .linked .step 0
 
   oldest-not-p : L 0 ≢ p
@@ -65,7 +66,7 @@ module _ {s : Ring} {L : ℕ → ℕ} {pc pt : ℕ} (v : Control s L pc pt) (p h
   -- ---- words
 
   here : getD words' p 0 ≡ 4 * R s + 0
-  here = getD-set-same (s .words) p (4 * R s + 0) 0 (omega (arith, v .links .linked .room, ok .1))
+  here = getD-set-same (s .words) p (4 * R s + 0) 0 (omega (arith, v .links .linked .room, reader-ok .1))
 
   other : (q : ℕ) → q ≢ p → getD words' q 0 ≡ getD (s .words) q 0
   other q n = getD-set-other (s .words) p q (4 * R s + 0) 0 n
@@ -96,16 +97,9 @@ module _ {s : Ring} {L : ℕ → ℕ} {pc pt : ℕ} (v : Control s L pc pt) (p h
   seen-off x a q = place-off (v .links .cycle) (a .k) (omega (arith, a .lo, commit-ahead)) (a .is ∙ q)
 
   spot-kept : (x : ℕ) → At (s .used) (S s) P pc pt x → At used' (S s) P' (pc - 1) (pt - 1) x
-  spot-kept x a =
-      let one = commit-ahead in
-      let top = v .order .top in
-      record {
-        k = a .k - 1;
-        lo = omega (arith, a .lo);
-        hi = omega (arith, a .hi);
-        is = lower-swap (a .k) (omega (arith, a .lo)) (omega (arith, a .hi)) ∙ a .is;
-        full = getD-set-other (s .used) (R s) x 0 0 (seen-off x a) ∙ a .full;
-      }
+  spot-kept =
+      spot-lower commit-ahead (λ i lo hi. lower-swap i (omega (arith, commit-ahead)) (omega (arith, v .order .top)))
+      (λ x a. getD-set-other (s .used) (R s) x 0 0 (seen-off x a))
 
   moving-kept : (x y : ℕ) → Moving (s .words) (s .used) (N s) (S s) P pc pt x y → Moving words' used' (N s) (S s) P' (pc - 1) (pt - 1) x y
   moving-kept x y m =
@@ -156,23 +150,12 @@ module _ {s : Ring} {L : ℕ → ℕ} {pc pt : ℕ} (v : Control s L pc pt) (p h
   headed-kept : Headed words' (N s) P'
   headed-kept =
       record {
-        last = rw newest-swap (omega (arith, other (R s) (λ q. ok .2 (sym q)), ok .5));
+        last = rw newest-swap (omega (arith, other (R s) (λ q. reader-ok .2 (sym q)), reader-ok .5));
         only = λ q hq nq f.
             let apart = marked-apart q 1 (λ z. omega arith) f in
             by-eq q (R s)
             (λ e. e ∙ sym newest-swap)
             (λ n. absurd (apart (head .only q hq n (sym (same-flag q apart) ∙ f) ∙ sym p-newest)));
-      }
-
-  owners-kept : Owners words' (N s) (s .stack) (s .depth)
-  owners-kept =
-      record {
-        small = λ q hq.
-            by-eq q p
-            (λ e. omega (arith, here, ap (flagOf words') e))
-            (λ n. omega (arith, same-flag q n, v .owners .small q hq));
-        some = λ q hq f. v .owners .some q hq (sym (same-flag q (marked-apart q 2 (λ z. omega arith) f)) ∙ f);
-        one = v .owners .one;
       }
 
   -- the new reader page still leads into the ring
@@ -183,18 +166,18 @@ module _ {s : Ring} {L : ℕ → ℕ} {pc pt : ℕ} (v : Control s L pc pt) (p h
         flag = λ f. oldest-not-p (head .only (L 0) (v .links .cycle .bound 0) (v .links .cycle .off 0) (sym (same-flag (L 0) oldest-not-p) ∙ f) ∙ sym p-newest);
       }
 
-  core : Control (swap (page p) (page (L 0)) s) (swapped L (R s)) (pc - 1) (pt - 1)
-  core =
+  swapped-oldest : Control (swap (page p) (page (L 0)) s) (swapped L (R s)) (pc - 1) (pt - 1)
+  swapped-oldest =
       record {
-        links = swap-links (v .links) p (ok .1) (ok .2) to-oldest from-reader;
+        links = swap-links (v .links) p (reader-ok .1) (reader-ok .2) to-oldest from-reader;
         order = order-kept;
         joined = joined-now;
         flags = headed headed-kept;
-        owners = owners-kept;
+        owners = owners-word (v .owners) words' p same-flag (omega (arith, here));
         depth = v .depth;
         records = record-kept;
         reader = tt;
       }
 
   pub swapped-control : Control (swap (page p) (page h) s) (swapped L (R s)) (pc - 1) (pt - 1)
-  swapped-control = subst (λ (x : ℕ). Control (swap (page p) (page x) s) (swapped L (R s)) (pc - 1) (pt - 1)) (sym h-oldest) core
+  swapped-control = subst (λ (x : ℕ). Control (swap (page p) (page x) s) (swapped L (R s)) (pc - 1) (pt - 1)) (sym h-oldest) swapped-oldest

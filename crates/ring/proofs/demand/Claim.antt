@@ -1,4 +1,4 @@
--- Demand 3 from control and accounts, field by field; what each field rests on is proved in a file of its own.
+-- The claim from control, accounts and fates, field by field; what each field rests on is proved in a file of its own.
 -- Assumes nothing.
 use mathlib.Core.Path.{sym, _∙_}
 use Prim.Native.Nat.{ℕ}
@@ -10,11 +10,11 @@ use Rattle.ring.specs.declared.state.Ring.{Ring}
 use Rattle.ring.proofs.invariant.Control.{Control}
 use Rattle.ring.proofs.invariant.Accounts.{Accounts}
 use Rattle.ring.proofs.invariant.Fates.{FatesOf}
+use Rattle.ring.proofs.accounts.Readings.{own-at, numbered-below, numbered-once}
 use Rattle.ring.proofs.demand.Counts.{given-numbered, handed-count, overwritten-count, open-count, waiting-count, sum}
 use Rattle.ring.proofs.demand.Events.{given-value, given-rising, handed-once}
 use Rattle.ring.proofs.demand.Marks.{visits, marks}
 use Rattle.ring.proofs.demand.Places.{open-from, settled-committed, one-place}
-use Rattle.ring.proofs.demand.Readings.{own-at, numbered-below, numbered-once}
 
 pub demand : {s : Ring} {h : History} {L : ℕ → ℕ} {pc pt a r0 gap : ℕ} → Control s L pc pt → Accounts s h L pc pt a r0 gap → FatesOf s h
     → Claim (receiptOf (s .counts)) (record { now = s; past = h })

@@ -1,5 +1,5 @@
--- The receipt says complete exactly when every reading begun has been handed out. Each writer has one fate: while begun = handed unbegun was dropped and unbegun is before its
--- reservation, so each is the own writer of a reading, and each reading was handed out; and the other way round.
+-- The receipt says complete exactly when every reading begun has been handed out. Each writer has one fate: while begun = handed, no writer was dropped and none is before
+-- its reservation, so each is the own writer of a reading, and each reading was handed out; and the other way round.
 -- Assumes nothing.
 use mathlib.Core.Path.{_≡_, refl, sym, _∙_}
 use mathlib.Core.Logic.{_≢_, _⊎_, inl, inr, ⊎-elim}

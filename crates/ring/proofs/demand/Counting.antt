@@ -54,10 +54,10 @@ listed-less {f} {c} ne l =
     let other : l .nth ≢ c = λ q. ne (rw (← q) (l .is)) in
     record { nth = l .nth; below = omega arith; is = l .is }
 
-abbrev pub Rising : (ℕ → ℕ) → ℕ → Type 0
+abbrev Rising : (ℕ → ℕ) → ℕ → Type 0
 Rising f c = (j k : ℕ) → j < k → k < c → f j < f k
 
-abbrev pub Under : (ℕ → ℕ) → ℕ → ℕ → Type 0
+abbrev Under : (ℕ → ℕ) → ℕ → ℕ → Type 0
 Under f c n = (k : ℕ) → k < c → f k < n
 
 -- what is under n + 1, with the last one not n, is under n

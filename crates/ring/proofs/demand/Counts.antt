@@ -12,7 +12,6 @@ use Rattle.ring.proofs.invariant.Control.{Control}
 use Rattle.ring.proofs.invariant.Accounts.{lostOf, givenNumber, Accounts}
 use Rattle.ring.proofs.accounts.Laws.{committed-taken}
 use Rattle.ring.proofs.demand.Counting.{count-map, count-once, rising-count, from-count, Parts, parts}
-use Rattle.ring.proofs.demand.Events.{handed-in, handed-out}
 use Rattle.ring.proofs.demand.Lost.{lost-in, lost-out}
 use Rattle.ring.proofs.demand.Places.{runAt, Placed, handed-committed, lost-committed, waiting-committed, open-from, one-place}
 
@@ -26,8 +25,8 @@ module _ {s : Ring} {h : History} {L : ℕ → ℕ} {pc pt a r0 gap : ℕ} (v : 
   handed-count =
       rw (← b .past .handedIs)
       (count-map
-      (λ m lt l. handed-out (record { nth = l .nth; below = l .below; is = l .is }))
-      (λ m lt x. let l = handed-in x in record { nth = l .nth; below = l .below; is = l .is })
+      (λ m lt l. record { nth = l .nth; event = record { below = l .below; gave = l .is } })
+      (λ m lt x. record { nth = x .nth; below = x .event .below; is = x .event .gave })
       (rising-count (givenNumber (h .events)) (s .counts .taken) (length (h .events)) (b .past .rising)
       (λ k lt. given-numbered (record { below = lt; gave = refl }))))
 

@@ -7,15 +7,7 @@ use native.Mathlib.Omega.{arith}
 use Rattle.ring.specs.Remember.{Numbered, Given}
 use Rattle.ring.specs.Demand.{One, EventAt, GivenIn}
 use Rattle.ring.proofs.Lists.{by-lt}
-use Rattle.ring.proofs.invariant.Accounts.{valueOf, givenValue, Handed, Past}
-
--- ---- the statement's record and the invariant's
-
-pub handed-in : {events : List Given} {m : ℕ} → GivenIn events m → Handed events m
-handed-in k = record { nth = k .nth; below = k .event .below; is = k .event .gave }
-
-pub handed-out : {events : List Given} {m : ℕ} → Handed events m → GivenIn events m
-handed-out k = record { nth = k .nth; event = record { below = k .below; gave = k .is } }
+use Rattle.ring.proofs.invariant.Accounts.{valueOf, givenValue, Past}
 
 -- ---- what an Event gave
 

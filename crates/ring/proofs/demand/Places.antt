@@ -16,9 +16,9 @@ use Rattle.ring.proofs.invariant.Order.{R, usedOf}
 use Rattle.ring.proofs.invariant.Control.{Control}
 use Rattle.ring.proofs.invariant.Accounts.{valueOf, Accounts}
 use Rattle.ring.proofs.accounts.Laws.{stored-own, read-le, page-le}
-use Rattle.ring.proofs.demand.Events.{handed-in, handed-out, given-low}
+use Rattle.ring.proofs.accounts.Readings.{committed-at, own-at}
+use Rattle.ring.proofs.demand.Events.{given-low}
 use Rattle.ring.proofs.demand.Lost.{lost-in, lost-out}
-use Rattle.ring.proofs.demand.Readings.{committed-at, own-at}
 use Rattle.ring.proofs.demand.Slots.{lies-below, reader-number, ring-from, ring-after, lies-once, in-reader, in-ring}
 use Rattle.ring.proofs.order.Places.{page-once}
 
@@ -29,7 +29,7 @@ abbrev pub Placed : Ring → History → ℕ → Type 0
 Placed s h m = ExactlyOne (HandedOut (runAt s h) m) (Overwritten (runAt s h) m) (Waiting (runAt s h) m) (NotCommitted (runAt s h) m)
 
 module _ {s : Ring} {h : History} {L : ℕ → ℕ} {pc pt a r0 gap : ℕ} (v : Control s L pc pt) (b : Accounts s h L pc pt a r0 gap) where
-  -- ---- what was read, what is committed, what was taken
+  -- ---- what was read is committed, and so is the gap
 
   read-committed : r0 + s .places .position ≤ s .counts .committed
   read-committed = read-le (b .sums)
@@ -122,8 +122,8 @@ module _ {s : Ring} {h : History} {L : ℕ → ℕ} {pc pt a r0 gap : ℕ} (v : 
       let notWaiting : ¬ Waiting (runAt s h) m = not-waiting (inl lt) (omega (arith, b .sums .read)) in
       let notOpen : ¬ NotCommitted (runAt s h) m = λ o. omega (arith, open-from o, read-committed) in
       ⊎-elim
-      (λ x. onlyFirst (handed-out x) (λ y. b .past .apart m x (lost-in (h .overwritings) m y)) notWaiting notOpen)
-      (λ x. onlySecond (λ y. b .past .apart m (handed-in y) x) (lost-out (h .overwritings) m x) notWaiting notOpen)
+      (λ x. onlyFirst x (λ y. b .past .apart m x (lost-in (h .overwritings) m y)) notWaiting notOpen)
+      (λ x. onlySecond (λ y. b .past .apart m y x) (lost-out (h .overwritings) m x) notWaiting notOpen)
       (b .past .covered m lt)
 
   -- the numbers of the gap were overwritten

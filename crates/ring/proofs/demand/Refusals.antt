@@ -60,7 +60,7 @@ module _ (s : Ring) where
   phase-unrefused (phase.Held p slot) = refl
   phase-unrefused phase.Filled = by-cond MoveUnrefused (eqb (s .depth) 1) (λ e. refl) (λ e. refl)
 
-  pub write-not-refused : moved (planWrite s) s .tells .refusal ≡ 0
+  write-not-refused : moved (planWrite s) s .tells .refusal ≡ 0
   write-not-refused = phase-unrefused (top s .phase)
 
   abbrev FetchUnrefused : Fetch → Type 0
@@ -78,13 +78,13 @@ module _ (s : Ring) where
   reader-unrefused (reading.Found p h) = refl
   reader-unrefused (reading.Ready p h) = by-cond FetchUnrefused (links (s .words) p h header) (λ e. refl) (λ e. refl)
 
-  pub read-not-refused : fetched (planRead s) s .tells .refusal ≡ 0
+  read-not-refused : fetched (planRead s) s .tells .refusal ≡ 0
   read-not-refused = reader-unrefused (s .reader .phase)
 
   -- ---- an action on a ring in shape
 
   module _ (fits : inShape s ≡ true) where
-    pub refusals : (a : Action) → act s a .tells .refusal ≡ listed s a
+    refusals : (a : Action) → act s a .tells .refusal ≡ listed s a
     refusals (action.Begin v) =
         by-bool (eqb (s .depth) mostDepth)
         (λ d. rw (fits, d))

@@ -21,7 +21,7 @@ use Rattle.ring.proofs.invariant.Control.{Moving, RecordOk, ReaderOk, C
 use Rattle.ring.proofs.invariant.Accounts.{Holding, HeldOk, Accounts}
 use Rattle.ring.proofs.invariant.Bounds.{AimFits, BoundsOf}
 use Rattle.ring.proofs.accounts.Laws.{read-le, page-le, committed-taken}
-use Rattle.ring.proofs.bounds.Steps.{ring-next}
+use Rattle.ring.proofs.bounds.Steps.{words-fit}
 use Rattle.ring.proofs.control.Phase.{placed-le, tail-le, commit-le}
 
 -- what the test of two pages asks
@@ -31,11 +31,6 @@ pages-fit p q n hp hq = every-each (pageTests p q n) (le-leb (p .0) n hp, (le-le
 module _ {s : Ring} {h : History} {L : ℕ → ℕ} {pc pt a r0 gap : ℕ} (v : Control s L pc pt) (b : Accounts s h L pc pt a r0 gap) (k : BoundsOf s) where
   abbrev P : ℕ → ℕ
   P = place (R s) L
-
-  -- ---- pages
-
-  pub words-fit : (p : ℕ) → p ≤ N s → nextOf (s .words) p ≤ N s
-  words-fit p hp = by-eq p (R s) (λ e. rw e (k .readerFits)) (ring-next (v .links) p hp)
 
   -- ---- size and places
 
@@ -50,10 +45,10 @@ module _ {s : Ring} {h : History} {L : ℕ → ℕ} {pc pt a r0 gap : ℕ} (v : 
       )
 
   index-fits : s .places .index ≤ S s
-  index-fits = omega (arith, b .sums .indexed, b .sizes .cap (C s) (commit-le v))
+  index-fits = omega (arith, b .sums .indexed, b .cap (C s) (commit-le v))
 
   position-fits : s .places .position ≤ S s
-  position-fits = omega (arith, b .sums .read, b .sizes .cap (R s) (v .links .cycle .reader))
+  position-fits = omega (arith, b .sums .read, b .cap (R s) (v .links .cycle .reader))
 
   places-fit : placesFit (s .places) (s .size) ≡ true
   places-fit =
@@ -80,12 +75,12 @@ module _ {s : Ring} {h : History} {L : ℕ → ℕ} {pc pt a r0 gap : ℕ} (v : 
   moving-fits : (t n : PageNo) → Moving (s .words) (s .used) (N s) (S s) P pc pt (t .0) (n .0) → pagesFit t n (N s) ≡ true
   moving-fits t n o =
       let ht = placed-le v (o .spot .k) (t .0) (o .spot .is) in
-      pages-fit t n (N s) ht (rw (← o .next) (words-fit (t .0) ht))
+      pages-fit t n (N s) ht (rw (← o .next) (words-fit v k (t .0) ht))
 
   held-fits : (p : PageNo) (j u : ℕ) → Holding (s .numbers) (s .used) (S s) P pc pt (s .counts .committed) (h .readings) (p .0) j u → heldFits p j (s .size) ≡ true
   held-fits p j u o =
       let hp = placed-le v (o .k) (p .0) (o .is) in
-      every-each (heldTests p j (s .size)) (le-leb (p .0) (N s) hp, (lt-ltb j (S s) (omega (arith, o .slot, b .sizes .cap (p .0) hp)), tt))
+      every-each (heldTests p j (s .size)) (le-leb (p .0) (N s) hp, (lt-ltb j (S s) (omega (arith, o .slot, b .cap (p .0) hp)), tt))
 
   record-fits : (ph : WriterPhase) (u : ℕ) → RecordOk (s .words) (s .used) (N s) (S s) P pc pt ph
       → HeldOk (s .numbers) (s .used) (S s) P pc pt (s .counts .committed) (h .readings) u ph → AimFits (N s) ph → writerFits ph (s .size) ≡ true
@@ -101,7 +96,7 @@ module _ {s : Ring} {h : History} {L : ℕ → ℕ} {pc pt a r0 gap : ℕ} (v : 
   stack-fits : stackFits (s .stack) (s .depth) (s .size) ≡ true
   stack-fits =
       and-both
-      (le-leb (s .depth) mostDepth (omega (arith, v .depth, b .four)))
+      (le-leb (s .depth) mostDepth (omega (arith, v .depth, b .stackRoom)))
       (allBelow-all (recordFitsAt (s .stack) (s .size)) (s .depth)
       (λ i hi. record-fits (phaseAt (s .stack) i) (storedAt (s .stack) i) (v .records i hi) (b .values .held i hi) (k .aims i hi)))
 
@@ -110,14 +105,14 @@ module _ {s : Ring} {h : History} {L : ℕ → ℕ} {pc pt a r0 gap : ℕ} (v : 
   word-fits : (p : ℕ) → p ≤ N s → wordFitsAt (s .words) (N s) p ≡ true
   word-fits p hp =
       and-both
-      (le-leb (nextOf (s .words) p) (N s) (words-fit p hp))
+      (le-leb (nextOf (s .words) p) (N s) (words-fit v k p hp))
       (rw (ne-eqb (flagOf (s .words) p) bothFlags (omega (arith, v .owners .small p hp))))
 
   all-words : wordsFit (s .words) (N s) ≡ true
   all-words = allBelow-all (wordFitsAt (s .words) (N s)) (N s + 1) (λ p hp. word-fits p (omega arith))
 
   used-fit : usedFit (s .used) (N s) (S s) ≡ true
-  used-fit = allBelow-all (usedFitsAt (s .used) (S s)) (N s + 1) (λ p hp. le-leb (usedOf s p) (S s) (b .sizes .cap p (omega arith)))
+  used-fit = allBelow-all (usedFitsAt (s .used) (S s)) (N s + 1) (λ p hp. le-leb (usedOf s p) (S s) (b .cap p (omega arith)))
 
   -- ---- counts
 

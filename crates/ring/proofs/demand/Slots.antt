@@ -43,7 +43,7 @@ module _ {s : Ring} {h : History} {L : ℕ → ℕ} {pc pt a r0 gap : ℕ} (v : 
   pub ring-after : r0 + usedOf s (R s) + gap ≤ S s * a
   ring-after =
       by-eq pc 0
-      (λ e. omega (arith, b .sums .joined e, b .sums .readerFrom e, b .sizes .cap (R s) (v .links .cycle .reader)))
+      (λ e. omega (arith, b .sums .joined e, b .sums .readerFrom e, b .cap (R s) (v .links .cycle .reader)))
       (λ n. omega (arith, b .sums .ringFrom (omega arith)))
 
   -- ---- in one slot only
@@ -53,7 +53,7 @@ module _ {s : Ring} {h : History} {L : ℕ → ℕ} {pc pt a r0 gap : ℕ} (v : 
   apart l o e n = omega (arith, reader-number l e, ring-from o n, ring-after)
 
   slot-low : {m j : ℕ} {p : PageNo} → LiesAt s m p j → j < S s
-  slot-low {p = p} l = omega (arith, b .sizes .cap (p .0) (l .page))
+  slot-low {p = p} l = omega (arith, b .cap (p .0) (l .page))
 
   ring-once : {m j k : ℕ} {p q : PageNo} → LiesAt s m p j → LiesAt s m q k → p .0 ≢ R s → q .0 ≢ R s → (p ≡ q) × (j ≡ k)
   ring-once {j = j} {k = k} l o pr qr =

@@ -18,7 +18,7 @@ use Rattle.ring.proofs.accounts.Readings.{nthReading-before, nthReading
 use Rattle.ring.proofs.accounts.Working.{begun-length, begun-old, begun-new, latest-at, others-length, others-at}
 
 -- the functions agree below d
-abbrev pub Agree : {A : Type 0} → ℕ → (ℕ → A) → (ℕ → A) → Type 0
+abbrev Agree : {A : Type 0} → ℕ → (ℕ → A) → (ℕ → A) → Type 0
 Agree d f g = (i : ℕ) → i < d → f i ≡ g i
 
 agree-back : {A : Type 0} {d : ℕ} {f g : ℕ → A} → Agree d f g → Agree d g f
@@ -135,7 +135,7 @@ module _ {begins : ℕ} {working : List BegunWriter} {readings : List Numbered} 
   rise-below : (vs : List BegunWriter) (e : ℕ) → e ≤ depth → Agree e (workerAt working) (workerAt vs) → (i j : ℕ) → i < j → j < e → workerAt vs i .nth < workerAt vs j .nth
   rise-below vs e le workers i j h l = rw (← workers i (omega arith), ← workers j l) (k .workersRise i j h (omega arith))
 
-  -- and unbegun before a reservation is left out
+  -- and no writer before its reservation is left out
   fates-below : {F : ℕ → ℕ} (vs : List BegunWriter) (e : ℕ) → length vs ≡ e → e ≤ depth → Agree e E F → Agree e (workerAt working) (workerAt vs)
       → ((writer : ℕ) → Early E depth working writer → Early F e vs writer) → Fates begins vs readings droppers F e taken dropped begun
   fates-below {F} vs e size le records workers stay =

@@ -11,7 +11,7 @@ use lib.ListN.{length, getD}
 use Rattle.ring.specs.Limits.{mostPages, mostSlots, slotRoom, mostDepth}
 use Rattle.ring.specs.State.{page, usedAt, numberAt}
 use Rattle.ring.specs.Remember.{BegunWriter, Numbered, Given, Overwriting, Marker, By, History, unbegun}
-use Rattle.ring.specs.Demand.{All, unnumbered, ungiven, RightlyTaken}
+use Rattle.ring.specs.Demand.{All, unnumbered, ungiven, GivenIn, RightlyTaken}
 use Rattle.ring.specs.declared.state.PageNo.{PageNo}
 use Rattle.ring.specs.declared.state.WriterPhase.{WriterPhase}
 use Rattle.ring.specs.declared.state.WriterPhase.the-variants as phase
@@ -22,13 +22,14 @@ use Rattle.ring.specs.declared.state.Ring.{Ring}
 use Rattle.ring.proofs.invariant.Order.{N, S, R, T, C, usedOf, cell, phaseAt, storedAt, Held, place}
 use Rattle.ring.proofs.invariant.Control.{Owns}
 
-pub record Sizes (N S : ℕ) (used numbers values : List ℕ) : Type 0 where
+pub record Sizes (N S : ℕ) : Type 0 where
   pub pages : N ≤ mostPages
   pub some : 1 ≤ S
   pub slots : S ≤ mostSlots
+
+pub record Rooms (numbers values : List ℕ) : Type 0 where
   pub numbers-room : length numbers ≡ slotRoom
   pub values-room : length values ≡ slotRoom
-  pub cap : (p : ℕ) → p ≤ N → getD used p 0 ≤ S
 
 -- ---- numbers and counts
 
@@ -134,13 +135,7 @@ givenNumber events k = getD events k ungiven .number
 abbrev pub givenValue : List Given → ℕ → ℕ
 givenValue events k = getD events k ungiven .value
 
--- the number m was handed out
-pub record Handed (events : List Given) (m : ℕ) : Type 0 where
-  pub nth : ℕ
-  pub below : nth < length events
-  pub is : givenNumber events nth ≡ m
-
--- Numbers below r0 + position, and those of the gap, have each been handed out or lost, and not both; no other number has.
+-- Each number below r0 + position was handed out or lost, not both; those of the gap were lost; no other number was either.
 pub record Past (events : List Given) (lost : List ℕ) (readings : List Numbered) (handed overwritten r0 position uR gap : ℕ) : Type 0 where
   pub handedIs : length events ≡ handed
   pub overwrittenIs : length lost ≡ overwritten
@@ -150,9 +145,9 @@ pub record Past (events : List Given) (lost : List ℕ) (readings : List Numbere
   pub lostLow : (k : ℕ) → k < length lost → getD lost k 0 < r0 + uR + gap
   pub lostApart : (k : ℕ) → k < length lost → getD lost k 0 < r0 + position ⊎ r0 + uR ≤ getD lost k 0
   pub lostRising : (j k : ℕ) → j < k → k < length lost → getD lost j 0 < getD lost k 0
-  pub covered : (m : ℕ) → m < r0 + position → Handed events m ⊎ Lost lost m
+  pub covered : (m : ℕ) → m < r0 + position → GivenIn events m ⊎ Lost lost m
   pub gone : (m : ℕ) → r0 + uR ≤ m → m < r0 + uR + gap → Lost lost m
-  pub apart : (m : ℕ) → Handed events m → Lost lost m → ⊥
+  pub apart : (m : ℕ) → GivenIn events m → Lost lost m → ⊥
 
 -- the i-th writer at work
 abbrev pub workerAt : List BegunWriter → ℕ → BegunWriter
@@ -167,7 +162,9 @@ pub record AtWork (marker : PageNo → Marker) (stack : List Writer) (depth : �
 -- ---- all of it
 
 pub record Accounts (s : Ring) (h : History) (L : ℕ → ℕ) (pc pt a r0 gap : ℕ) : Type 0 where
-  pub sizes : Sizes (N s) (S s) (s .used) (s .numbers) (s .values)
+  pub sizes : Sizes (N s) (S s)
+  pub rooms : Rooms (s .numbers) (s .values)
+  pub cap : (p : ℕ) → p ≤ N s → usedOf s p ≤ S s
   pub numbers : Numbers (s .numbers) (s .used) (N s) (S s) (R s) (place (R s) L) a r0 (s .counts .taken)
   pub sums : Sums (S s) (usedOf s (R s)) (usedOf s (T s)) (usedOf s (C s)) (s .places .index) (s .places .position) (s .counts .taken) (s .counts .committed)
       (s .counts .handed) (s .counts .overwritten) pc pt a r0 gap
@@ -178,4 +175,4 @@ pub record Accounts (s : Ring) (h : History) (L : ℕ → ℕ) (pc pt a r0 gap :
   pub work : AtWork (h .marker) (s .stack) (s .depth) (h .working)
   pub balance : s .counts .begun ≡ s .counts .taken + s .counts .dropped + earlies (s .stack) (s .depth)
   pub rightly : All RightlyTaken (h .overwritings)
-  pub four : length (s .stack) ≡ mostDepth
+  pub stackRoom : length (s .stack) ≡ mostDepth

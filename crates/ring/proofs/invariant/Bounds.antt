@@ -10,7 +10,7 @@ use Rattle.ring.specs.declared.state.Writer.{Writer}
 use Rattle.ring.specs.declared.state.Ring.{Ring}
 use Rattle.ring.proofs.invariant.Order.{N, R, nextOf, phaseAt}
 
--- the page n that a MARK names
+-- the page n that a MARK names is at most N
 abbrev pub AimFits : ℕ → WriterPhase → Type 0
 AimFits N phase.Want = Unit {0}
 AimFits N (phase.Mark t n) = n .0 ≤ N

@@ -26,7 +26,7 @@ pub record At (used : List ℕ) (S : ℕ) (P : ℕ → ℕ) (pc pt t : ℕ) : Ty
   pub is : P k ≡ t
   pub full : getD used t 0 ≡ S
 
--- PROMOTE, CLEAR and PUSH (t, n)
+-- PROMOTE, CLEAR and PUSH (t, n): n is the page in t's word, and t is not the newest page
 pub record Moving (words used : List ℕ) (N S : ℕ) (P : ℕ → ℕ) (pc pt t n : ℕ) : Type 0 where
   pub spot : At used S P pc pt t
   pub next : nextOf words t ≡ n
@@ -64,7 +64,7 @@ Owns phase.Filled p = ⊥
 abbrev pub Free : WriterPhase → Type 0
 Free ph = (p : ℕ) → ¬ Owns ph p
 
--- each update mark has one owner
+-- no word has both flags, and each update mark has one owner
 pub record Owners (words : List ℕ) (N : ℕ) (stack : List Writer) (depth : ℕ) : Type 0 where
   pub small : (p : ℕ) → p ≤ N → flagOf words p ≤ 2
   pub some : (p : ℕ) → p ≤ N → flagOf words p ≡ 2 → (i : ℕ) × (i < depth) × Owns (phaseAt stack i) p
@@ -86,7 +86,7 @@ pub record Headed (words : List ℕ) (N : ℕ) (P : ℕ → ℕ) : Type 0 where
   pub last : flagOf words (P N) ≡ 1
   pub only : (p : ℕ) → p ≤ N → p ≢ P 0 → flagOf words p ≡ 1 → p ≡ P N
 
--- between a Marked and its Promoted: no header mark, and record a is in PROMOTE with the mark its own
+-- between a Marked and the next Promoted: no header mark, and record a is in PROMOTE with the mark its own
 pub record Headless (words : List ℕ) (N : ℕ) (P : ℕ → ℕ) (tail pc : ℕ) (stack : List Writer) (depth : ℕ) : Type 0 where
   pub none : (p : ℕ) → p ≤ N → p ≢ P 0 → flagOf words p ≢ 1
   pub last : flagOf words (P N) ≡ 0
@@ -103,7 +103,8 @@ pub data Flags (words : List ℕ) (N : ℕ) (P : ℕ → ℕ) (tail pc : ℕ) (s
 
 -- ---- order
 
--- where tail and commit page stand; pages before the tail page are full, pages after it empty
+-- where tail and commit page stand; ring pages before the tail page are full, and so is the reader page while it is the commit page and not the tail page; pages after
+-- the tail page are empty
 pub record Order (used : List ℕ) (N S tail commit : ℕ) (P : ℕ → ℕ) (pc pt : ℕ) : Type 0 where
   pub tailAt : P pt ≡ tail
   pub commitAt : P pc ≡ commit
@@ -115,12 +116,12 @@ pub record Order (used : List ℕ) (N S tail commit : ℕ) (P : ℕ → ℕ) (pc
   pub full0 : pc ≡ 0 → 0 < pt → getD used (P 0) 0 ≡ S
   pub empty : (i : ℕ) → pt < i → i ≤ N → getD used (P i) 0 ≡ 0
 
--- while the commit page is the reader page, its word leads into the ring
+-- while the commit page is the reader page, its word leads to the oldest page and has no header mark
 pub record Joined (words : List ℕ) (P : ℕ → ℕ) : Type 0 where
   pub next : nextOf words (P 0) ≡ P 1
   pub flag : flagOf words (P 0) ≢ 1
 
--- FOUND and READY (p, h): the commit page is not the reader page; READY: the reader page's word is the page after h, HEADER
+-- FOUND and READY (p, h): p and h are ring pages, and the commit page is one; READY: the reader page's word is the page after h, HEADER
 abbrev pub ReaderOk : List ℕ → ℕ → ℕ → ℕ → ReaderPhase → Type 0
 ReaderOk words N R pc reading.Idle = Unit {0}
 ReaderOk words N R pc (reading.Found p h) = (1 ≤ pc) × (p .0 ≤ N) × (p .0 ≢ R) × (h .0 ≤ N) × (h .0 ≢ R)

@@ -1,5 +1,5 @@
--- The third part of the invariant, fates: each accepted Begin's writer is the own writer of one reading, or was dropped, or is at work before its reservation. It
--- is what 'complete' rests on. A writer is told by how many Begins were accepted before its own. E i is 1 while the record at place i of the stack is before its reservation.
+-- The third part of the invariant, fates: each accepted Begin's writer is the own writer of one reading, or was dropped, or is at work before its reservation. 'Complete',
+-- and the receipt's begun and dropped, rest on it. A writer is told by how many Begins were accepted before its own. E i is 1 while the record at place i of the stack is before its reservation.
 -- Assumes nothing.
 use mathlib.Core.Path.{_≡_}
 use mathlib.Core.Logic.{_⊎_}

@@ -1,5 +1,6 @@
 -- The order of the ring pages, and the letters that the proofs of demand 3 use: N, S as in the rules; R, T and C the numbers of the reader page, the tail page and the
--- commit page; L the ring pages from the oldest on, told for every i, since it repeats after N; P the pages by place: the reader page at place 0, L from place 1 on.
+-- commit page; L i, for every i, a ring page: L 0 the oldest, L (i + N) the same as L i; P the pages by place: the reader page at place 0, L from place 1 on. Everywhere s is
+-- the ring, h the history, v its control, b its accounts and g the whole invariant.
 -- Assumes nothing.
 use mathlib.Core.Path.{_≡_}
 use mathlib.Core.Logic.{_≢_}
@@ -121,6 +122,6 @@ turn L i = L (suc i)
 unfoldable pub instead : ℕ → ℕ → ℕ → ℕ
 instead h r x = cond (eqb x h) r x
 
--- a swap: the old reader page, as the newest, stands for the oldest
+-- a swap: turned by one, with the old reader page in the place of the oldest
 abbrev pub swapped : (ℕ → ℕ) → ℕ → ℕ → ℕ
 swapped L R i = instead (L 0) R (L (suc i))

@@ -49,7 +49,7 @@ place-next k (suc i) h = k .linked .step i
 pub last-next : {words : List ℕ} {N R : ℕ} {L : ℕ → ℕ} → Links words N R L → nextOf words (place R L N) ≡ L 0
 last-next {N = N} k = place-next k N (omega (arith, k .cycle .two)) ∙ place-past (k .cycle)
 
--- ---- after an overwriting and after a swap every place but the last is one lower
+-- ---- after an overwriting (from place 1 on) and after a swap (below place N), place i has the page that stood at place i + 1
 
 pub place-turn : (R : ℕ) (L : ℕ → ℕ) (i : ℕ) → 1 ≤ i → place R (turn L) i ≡ place R L (suc i)
 place-turn R L zero h = absurd (omega arith)

@@ -141,6 +141,16 @@ module _ (stack : List Writer) (e : ℕ) (w : Writer) where
             (λ nj. owners .one i j p hi hj (own-out i p ni a) (own-out j p nj b)));
       }
 
+-- one word changed to one with no update mark, the records left alone
+pub owners-word : {words : List ℕ} {N : ℕ} {stack : List Writer} {depth : ℕ} → Owners words N stack depth → (words' : List ℕ) (x : ℕ)
+    → ((p : ℕ) → p ≢ x → flagOf words' p ≡ flagOf words p) → flagOf words' x ≤ 1 → Owners words' N stack depth
+owners-word owners words' x same new =
+    record {
+      small = λ p hp. by-eq p x (λ q. omega (arith, ap (flagOf words') q)) (λ n. omega (arith, same p n, owners .small p hp));
+      some = λ p hp f. by-eq p x (λ q. absurd (omega (arith, ap (flagOf words') q))) (λ n. owners .some p hp (sym (same p n) ∙ f));
+      one = owners .one;
+    }
+
 -- ---- the reader
 
 pub reader-map : (words words' : List ℕ) (N R pc pc' : ℕ) → (1 ≤ pc → 1 ≤ pc') → (1 ≤ pc → getD words' R 0 ≡ getD words R 0)

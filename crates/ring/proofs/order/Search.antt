@@ -17,7 +17,7 @@ use Rattle.ring.specs.declared.moves.Search.the-variants as found
 use Rattle.ring.proofs.Lists.{by-eq, and-left, and-right}
 use Rattle.ring.proofs.invariant.Order.{nextOf, flagOf}
 
--- the lowest number that passes, or none does
+-- a number below k that passes, or that none does
 abbrev LeastIs : (ℕ → Bool) → ℕ → Least → Type 0
 LeastIs f k none = (i : ℕ) → i < k → f i ≡ false
 LeastIs f k (at p) = (p < k) × (f p ≡ true)

@@ -49,7 +49,7 @@ module _ {N R : ℕ} {L : ℕ → ℕ} (c : Cycle N R L) where
       let o = turn-cycle c .onto p hp n in
       (o .0, o .1, instead-other (L 0) R (L (suc (o .0))) (λ q. hr (sym (o .2) ∙ q)) ∙ o .2))
 
-  pub swap-cycle : Cycle N (L 0) (swapped L R)
+  swap-cycle : Cycle N (L 0) (swapped L R)
   swap-cycle =
       record {
         two = c .two;
@@ -61,7 +61,7 @@ module _ {N R : ℕ} {L : ℕ → ℕ} (c : Cycle N R L) where
         onto = swap-onto;
       }
 
--- ---- the words: page p, whose word was the oldest page, now leads to the old reader page, and this to the second oldest page
+-- ---- the words: page p, whose word named the oldest page, now leads to the old reader page, and this to the second oldest page
 
 module _ {words : List ℕ} {N R : ℕ} {L : ℕ → ℕ} (k : Links words N R L) (p : ℕ) (p≤N : p ≤ N) (p≢R : p ≢ R) (to-first : nextOf words p ≡ L 0)
     (from-reader : nextOf words R ≡ L 1) where

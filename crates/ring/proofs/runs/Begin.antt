@@ -25,7 +25,7 @@ module _ (v : ℕ) (s : Ring) (h : History) (g : Invariant s h) where
   -- a Begin that is allowed
   begun-next : s .depth ≢ mostDepth → s .counts .begun ≢ mostCount → Next v s h (begin v s)
   begun-next shallow fresh =
-      let room : s .depth < length (s .stack) = omega (arith, g .control .depth, g .accounts .four) in
+      let room : s .depth < length (s .stack) = omega (arith, g .control .depth, g .accounts .stackRoom) in
       holds (g .L) (g .pc) (g .pt) (g .a) (g .r0) (g .gap)
       (begun-control (g .control) v room)
       (begun-accounts (g .accounts) v room)

@@ -181,7 +181,7 @@ module _ (size : Size) (fits : sizeFits size ≡ true) where
         lostRising = λ j k lt hk. absurd (omega arith);
         covered = λ m hm. absurd (omega arith);
         gone = λ m lo hi. absurd (omega (arith, zeros pageRoom n));
-        apart = λ m o w. omega (arith, o .below);
+        apart = λ m o w. omega (arith, o .event .below);
       }
 
   fresh-accounts : Accounts s nothing L 1 1 0 0 0
@@ -189,14 +189,9 @@ module _ (size : Size) (fits : sizeFits size ≡ true) where
       let uR = zeros pageRoom n in
       let uT = zeros pageRoom 0 in
       record {
-        sizes = record {
-          pages = n16;
-          some = s1;
-          slots = s16;
-          numbers-room = length-replicate {A = ℕ} slotRoom 0;
-          values-room = length-replicate {A = ℕ} slotRoom 0;
-          cap = λ p hp. omega (arith, zeros pageRoom p);
-        };
+        sizes = record { pages = n16; some = s1; slots = s16 };
+        rooms = record { numbers-room = length-replicate {A = ℕ} slotRoom 0; values-room = length-replicate {A = ℕ} slotRoom 0 };
+        cap = λ p hp. omega (arith, zeros pageRoom p);
         numbers = record {
           slot = λ i j lo hi hj. unused (place n L i) j hj;
           reader = λ j hj. unused n j hj;
@@ -220,7 +215,7 @@ module _ (size : Size) (fits : sizeFits size ≡ true) where
         work = record { many = refl; value = λ i hi. absurd (omega arith); marks = λ i p hi o. absurd (omega arith) };
         balance = refl;
         rightly = tt;
-        four = refl;
+        stackRoom = refl;
       }
 
   fresh-fates : FatesOf s nothing

@@ -1,4 +1,4 @@
--- The whole invariant of a ring and a history: its four parts over the same witnesses.
+-- The whole invariant of a ring and a history: control and accounts over the same witnesses, fates, bounds.
 -- Assumes nothing.
 use Prim.Native.Nat.{ℕ}
 use Rattle.ring.specs.Answers.{Outcome}
@@ -40,6 +40,11 @@ holds L pc pt a r0 gap v b f k =
       bounds = k;
     }
 
--- what an outcome comes to, on the ring s with the history h; v is the value in the action
+-- the witnesses stay
+pub holds-same : {s s' : Ring} {h h' : History} (g : Invariant s h) → Control s' (g .L) (g .pc) (g .pt) → Accounts s' h' (g .L) (g .pc) (g .pt) (g .a) (g .r0) (g .gap)
+    → FatesOf s' h' → BoundsOf s' → Invariant s' h'
+holds-same g v b f k = holds (g .L) (g .pc) (g .pt) (g .a) (g .r0) (g .gap) v b f k
+
+-- the invariant after an outcome on the ring s with the history h; v is the value in the action
 abbrev pub Next : ℕ → Ring → History → Outcome → Type 0
 Next v s h o = Invariant (o .ring) (recall v s (o .answer) h)

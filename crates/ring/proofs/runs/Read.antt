@@ -24,8 +24,6 @@ use Rattle.ring.proofs.Lists.{by-bool, by-cond}
 use Rattle.ring.proofs.invariant.Order.{N, S, R, C, nextOf, usedOf, Found, Ready, place, swapped}
 use Rattle.ring.proofs.invariant.Control.{Control}
 use Rattle.ring.proofs.invariant.Accounts.{Quiet, Accounts}
-use Rattle.ring.proofs.invariant.Fates.{FatesOf}
-use Rattle.ring.proofs.invariant.Bounds.{BoundsOf}
 use Rattle.ring.proofs.accounts.Event.{event-accounts}
 use Rattle.ring.proofs.accounts.Phase.{words-accounts, reader-accounts}
 use Rattle.ring.proofs.accounts.Swap.{swapped-accounts}
@@ -34,7 +32,7 @@ use Rattle.ring.proofs.control.Find.{reader-control, handed-control, fo
 use Rattle.ring.proofs.control.Prepare.{prepared-control}
 use Rattle.ring.proofs.control.Swap.{swapped-control}
 use Rattle.ring.proofs.order.Search.{Tells, search-tells}
-use Rattle.ring.proofs.runs.Invariant.{Invariant, holds, Next}
+use Rattle.ring.proofs.runs.Invariant.{Invariant, holds, holds-same, Next}
 
 module _ (x : ℕ) (s : Ring) (h : History) (g : Invariant s h) where
   abbrev v : Control s (g .L) (g .pc) (g .pt)
@@ -43,14 +41,9 @@ module _ (x : ℕ) (s : Ring) (h : History) (g : Invariant s h) where
   abbrev b : Accounts s h (g .L) (g .pc) (g .pt) (g .a) (g .r0) (g .gap)
   b = g .accounts
 
-  -- what a rule comes to
+  -- the invariant after a rule
   abbrev After : Fetch → Type 0
   After f = Next x s h (fetched f s)
-
-  -- the witnesses stay, and so do the fates
-  same : {s' : Ring} {h' : History} → Control s' (g .L) (g .pc) (g .pt) → Accounts s' h' (g .L) (g .pc) (g .pt) (g .a) (g .r0) (g .gap)
-      → FatesOf s' h' → BoundsOf s' → Invariant s' h'
-  same u k f l = holds (g .L) (g .pc) (g .pt) (g .a) (g .r0) (g .gap) u k f l
 
   -- ---- the limit of the reader page
 
@@ -76,12 +69,12 @@ module _ (x : ℕ) (s : Ring) (h : History) (g : Invariant s h) where
   -- ---- IDLE
 
   event-next : s .reader .phase ≡ reading.Idle → s .places .position < readLimit (s .places) (s .used) → After fetch.Event
-  event-next q l = same (handed-control v) (event-accounts v b q (limit-page l) (limit-commit l)) (g .fates) (g .bounds)
+  event-next q l = holds-same g (handed-control v) (event-accounts v b q (limit-page l) (limit-commit l)) (g .fates) (g .bounds)
 
   find-next : C s ≢ R s → s .places .position ≡ usedOf s (R s) → (r : Search) → Tells (s .words) (N s) (R s) r → After (findBy r)
   find-next n q (found.At p h0) k =
       let to : h0 .0 ≡ nextOf (s .words) (p .0) = k .3 in
-      same
+      holds-same g
       (found-control v n (p .0) (h0 .0) (k .0) (k .1) (k .2) to)
       (reader-accounts b (Found (p .0) (h0 .0)) q)
       (g .fates)
@@ -104,7 +97,7 @@ module _ (x : ℕ) (s : Ring) (h : History) (g : Invariant s h) where
   prepare-next : (p h0 : ℕ) → s .reader .phase ≡ Found p h0 → After (fetch.Prepare (page p) (page h0))
   prepare-next p h0 q =
       let whole = subst (λ (f : ReaderPhase). Quiet f (s .places .position) (usedOf s (R s))) q (b .quiet) in
-      same
+      holds-same g
       (prepared-control v p h0 q)
       (reader-accounts (words-accounts b _) (Ready p h0) whole)
       (g .fates)
@@ -122,7 +115,7 @@ module _ (x : ℕ) (s : Ring) (h : History) (g : Invariant s h) where
       (swapped-accounts v b p h0 q hw)
       (g .fates)
       (bounds-swap v (g .bounds) p h0 q))
-      (λ k. same (reader-control v reading.Idle tt) (reader-accounts b reading.Idle tt) (g .fates) (g .bounds))
+      (λ k. holds-same g (reader-control v reading.Idle tt) (reader-accounts b reading.Idle tt) (g .fates) (g .bounds))
 
   -- ---- by the reader's phase
 

@@ -6,7 +6,7 @@ use Prim.Native.Nat.{ℕ, suc, _+_, _-_, _*_, _≤_, _<_}
 use native.Mathlib.Omega.{arith}
 use borrow.Author.Tests.{ltb-true, ltb-false, eqb-true, eqb-false, eq-eqb}
 use lib.Dec.{eqb, ltb}
-use lib.ListN.{length, getD, set}
+use lib.ListN.{getD, set}
 use Rattle.ring.specs.Limits.{stop, header, update}
 use Rattle.ring.specs.State.{page, noWriter, wordAt, usedAt, top, setPhase}
 use Rattle.ring.specs.Words.{pageIn, flagIn, samePage, readerOnCommit, links, findHeader}
@@ -26,7 +26,7 @@ use Rattle.ring.specs.declared.moves.Move.{Move}
 use Rattle.ring.specs.declared.moves.Move.the-variants as move
 use Rattle.ring.proofs.Lists.{by-bool, by-eq, by-cond, and-false, or-false}
 use Rattle.ring.proofs.invariant.Order.{N, S, R, T, topAt, nextOf, flagOf, usedOf, phaseAt, rephase, Mark, Promote, Clear, Push, Held, turn}
-use Rattle.ring.proofs.invariant.Control.{Owns, Control}
+use Rattle.ring.proofs.invariant.Control.{Owns, Free, Control}
 use Rattle.ring.proofs.invariant.Accounts.{early, Accounts}
 use Rattle.ring.proofs.invariant.Fates.{FatesOf}
 use Rattle.ring.proofs.invariant.Bounds.{AimFits, BoundsOf}
@@ -36,25 +36,22 @@ use Rattle.ring.proofs.accounts.Phase.{words-accounts, phase-accounts}
 use Rattle.ring.proofs.accounts.Pop.{pending-accounts, dropped-accounts, committed-accounts}
 use Rattle.ring.proofs.accounts.Push.{tail-accounts}
 use Rattle.ring.proofs.accounts.Reserve.{reserved-accounts}
-use Rattle.ring.proofs.bounds.Steps.{bounds-flag, bounds-phase, bounds-reserve, bounds-pop, bounds-drop, bounds-commit}
+use Rattle.ring.proofs.bounds.Steps.{words-fit, bounds-flag, bounds-phase, bounds-reserve, bounds-pop, bounds-drop, bounds-commit}
 use Rattle.ring.proofs.control.Clear.{cleared-control}
 use Rattle.ring.proofs.control.Fill.{filled-control}
 use Rattle.ring.proofs.control.Look.{look-reader, look-push, look-mark}
 use Rattle.ring.proofs.control.Mark.{retry-control, shared-control, marked-control}
-use Rattle.ring.proofs.control.Phase.{head-of, tail-le, top-ok}
+use Rattle.ring.proofs.control.Phase.{head-of, tail-le, top-below, top-ok}
 use Rattle.ring.proofs.control.Pop.{pending-control, dropped-control, committed-control}
-use Rattle.ring.proofs.control.Promote.{standing-control, promoted-control}
+use Rattle.ring.proofs.control.Promote.{own-after, standing-control, promoted-control}
 use Rattle.ring.proofs.control.Push.{passed-control, pushed-control}
 use Rattle.ring.proofs.control.Reserve.{reserved-control}
-use Rattle.ring.proofs.demand.Shape.{words-fit}
 use Rattle.ring.proofs.fates.Steps.{fates-same, fates-committed, fates-reserved, fates-ended, fates-dropped}
 use Rattle.ring.proofs.order.Records.{phase-same, phase-other}
 use Rattle.ring.proofs.order.Search.{Tells, search-tells}
-use Rattle.ring.proofs.runs.Invariant.{Invariant, holds, Next}
+use Rattle.ring.proofs.runs.Invariant.{Invariant, holds, holds-same, Next}
 
-own-after : (own : Bool) (t n p : ℕ) → Owns (afterPromote (page t) (page n) own) p → Owns (Promote t n own) p
-own-after true t n p q = q
-own-after false t n p q = q
+-- ---- the phase after PROMOTE: early, with no aim
 
 early-after : (own : Bool) (t n : ℕ) → _≡_ {A = ℕ} (early (afterPromote (page t) (page n) own)) 1
 early-after true t n = refl
@@ -64,31 +61,20 @@ aim-after : (N : ℕ) (own : Bool) (t n : ℕ) → AimFits N (afterPromote (page
 aim-after N true t n = tt
 aim-after N false t n = tt
 
-module _ (x : ℕ) (s : Ring) (h : History) (g : Invariant s h) (deep : 1 ≤ s .depth) where
+module _ (x : ℕ) {s : Ring} {h : History} (g : Invariant s h) (deep : 1 ≤ s .depth) where
   abbrev v : Control s (g .L) (g .pc) (g .pt)
   v = g .control
 
   abbrev b : Accounts s h (g .L) (g .pc) (g .pt) (g .a) (g .r0) (g .gap)
   b = g .accounts
 
-  -- what a move comes to
+  -- the invariant after a move
   abbrev After : Move → Type 0
   After m = Next x s h (moved m s)
 
-  e<len : topAt s < length (s .stack)
-  e<len = omega (arith, v .depth)
-
-  -- the witnesses stay
-  same : {s' : Ring} {h' : History} → Control s' (g .L) (g .pc) (g .pt) → Accounts s' h' (g .L) (g .pc) (g .pt) (g .a) (g .r0) (g .gap)
-      → FatesOf s' h' → BoundsOf s' → Invariant s' h'
-  same u k f l = holds (g .L) (g .pc) (g .pt) (g .a) (g .r0) (g .gap) u k f l
-
   -- ---- another phase of the top record
 
-  phase-acc : (ph : WriterPhase) → early (top s .phase) ≡ 1 → early ph ≡ 1 → ((p : ℕ) → Owns ph p → Owns (top s .phase) p)
-      → Accounts (setPhase ph s) h (g .L) (g .pc) (g .pt) (g .a) (g .r0) (g .gap)
-  phase-acc = phase-accounts b deep (v .depth)
-
+  -- as early as it was
   phase-fates : (ph : WriterPhase) → early (top s .phase) ≡ early ph → FatesOf (setPhase ph s) h
   phase-fates ph q =
       let w = rephase (s .stack) (topAt s) ph in
@@ -96,115 +82,123 @@ module _ (x : ℕ) (s : Ring) (h : History) (g : Invariant s h) (deep : 1 ≤ s 
       (λ i hi.
       by-eq i (topAt s)
       (λ z. ap (λ (k : ℕ). early (phaseAt (s .stack) k)) z ∙ q
-      ∙ sym (ap (λ (k : ℕ). early (phaseAt (set (s .stack) (topAt s) w) k)) z ∙ ap early (phase-same (s .stack) (topAt s) w e<len)))
+      ∙ sym (ap (λ (k : ℕ). early (phaseAt (set (s .stack) (topAt s) w) k)) z ∙ ap early (phase-same (s .stack) (topAt s) w (top-below v deep))))
       (λ n. sym (ap early (phase-other (s .stack) (topAt s) i w n))))
 
   phase-bounds : (ph : WriterPhase) → AimFits (N s) ph → BoundsOf (setPhase ph s)
   phase-bounds = bounds-phase s (g .bounds) deep (v .depth)
 
-  -- records below the top one are as early as they were
-  below-top : (w : Writer) (i : ℕ) → i < s .depth - 1 → early (phaseAt (s .stack) i) ≡ early (phaseAt (set (s .stack) (topAt s) w) i)
-  below-top w i hi = sym (ap early (phase-other (s .stack) (topAt s) i w (omega arith)))
+  -- an early record becomes another that owns no mark: all of the invariant but control
+  rephased : (ph : WriterPhase) → early (top s .phase) ≡ 1 → early ph ≡ 1 → Free ph → AimFits (N s) ph → Control (setPhase ph s) (g .L) (g .pc) (g .pt)
+      → Invariant (setPhase ph s) h
+  rephased ph was is free aim control =
+      holds-same g control
+      (phase-accounts b deep (v .depth) ph was is (λ p o. absurd (free p o)))
+      (phase-fates ph (was ∙ sym is))
+      (phase-bounds ph aim)
+
+  -- the records below the top one are as early as they were
+  early-below : (w : Writer) (i : ℕ) → i < s .depth - 1 → early (phaseAt (s .stack) i) ≡ early (phaseAt (set (s .stack) (topAt s) w) i)
+  early-below w i hi = sym (ap early (phase-other (s .stack) (topAt s) i w (omega arith)))
 
   -- ---- WANT
 
-  reserve-next : top s .phase ≡ phase.Want → usedOf s (T s) < S s → After (move.Reserve (s .places .tail) (usedAt (s .used) (s .places .tail)))
-  reserve-next q room =
-      let held = rephase (s .stack) (topAt s) (Held (T s) (usedOf s (T s))) in
-      same
-      (reserved-control v deep q room)
-      (reserved-accounts v b deep q room)
-      (fates-reserved (g .fates) deep (below-top held) (s .counts .taken) (ap early q) (ap early (phase-same (s .stack) (topAt s) held e<len)))
-      (bounds-reserve s (g .bounds) deep (v .depth) (s .places .tail) (usedOf s (T s)))
+  module _ (want : top s .phase ≡ phase.Want) where
+    -- the page after the tail page, and the flag in the tail page's word
+    abbrev n : PageNo
+    n = pageIn (wordAt (s .words) (s .places .tail))
 
-  drop-next : top s .phase ≡ phase.Want → After move.Drop
-  drop-next q =
-      same
-      (dropped-control v deep q)
-      (dropped-accounts b deep (v .depth) q)
-      (fates-dropped (g .fates) deep (below-top noWriter) (ap early q))
-      (bounds-drop s (g .bounds))
+    abbrev flag : ℕ
+    flag = flagIn (wordAt (s .words) (s .places .tail))
 
-  push-look : top s .phase ≡ phase.Want → Control (setPhase (Push (T s) (nextOf (s .words) (T s))) s) (g .L) (g .pc) (g .pt)
-      → After (move.Become (Push (T s) (nextOf (s .words) (T s))) answer.Looked)
-  push-look q u = same u (phase-acc (Push (T s) (nextOf (s .words) (T s))) (ap early q) refl (λ p o. absurd o)) (phase-fates _ (ap early q)) (phase-bounds _ tt)
+    reserve-next : usedOf s (T s) < S s → After (move.Reserve (s .places .tail) (usedAt (s .used) (s .places .tail)))
+    reserve-next room =
+        let held = rephase (s .stack) (topAt s) (Held (T s) (usedOf s (T s))) in
+        let now = ap early (phase-same (s .stack) (topAt s) held (top-below v deep)) in
+        holds-same g
+        (reserved-control v deep want room)
+        (reserved-accounts v b deep want room)
+        (fates-reserved (g .fates) deep (early-below held) (s .counts .taken) (ap early want) now)
+        (bounds-reserve s (g .bounds) deep (v .depth) (s .places .tail) (usedOf s (T s)))
 
-  mark-look : top s .phase ≡ phase.Want → Control (setPhase (Mark (T s) (nextOf (s .words) (T s))) s) (g .L) (g .pc) (g .pt)
-      → After (move.Become (Mark (T s) (nextOf (s .words) (T s))) answer.Looked)
-  mark-look q u =
-      same u (phase-acc (Mark (T s) (nextOf (s .words) (T s))) (ap early q) refl (λ p o. absurd o)) (phase-fates _ (ap early q))
-      (phase-bounds _ (words-fit v b (g .bounds) (T s) (tail-le v)))
+    drop-next : After move.Drop
+    drop-next =
+        holds-same g
+        (dropped-control v deep want)
+        (dropped-accounts b deep (v .depth) want)
+        (fates-dropped (g .fates) deep (early-below noWriter) (ap early want))
+        (bounds-drop s (g .bounds))
 
-  abbrev n : PageNo
-  n = pageIn (wordAt (s .words) (s .places .tail))
+    push-look : Control (setPhase (Push (T s) (n .0)) s) (g .L) (g .pc) (g .pt) → After (move.Become (Push (T s) (n .0)) answer.Looked)
+    push-look = rephased (Push (T s) (n .0)) (ap early want) refl (λ p o. o) tt
 
-  abbrev flag : ℕ
-  flag = flagIn (wordAt (s .words) (s .places .tail))
+    mark-look : Control (setPhase (Mark (T s) (n .0)) s) (g .L) (g .pc) (g .pt) → After (move.Become (Mark (T s) (n .0)) answer.Looked)
+    mark-look = rephased (Mark (T s) (n .0)) (ap early want) refl (λ p o. o) (words-fit v (g .bounds) (T s) (tail-le v))
 
-  tail-flag : flagOf (s .words) (T s) ≤ 2
-  tail-flag = v .owners .small (T s) (tail-le v)
+    -- neither HEADER nor UPDATE
+    flag-normal : eqb flag header || eqb flag update ≡ false → flagOf (s .words) (T s) ≡ 0
+    flag-normal neither =
+        let no = or-false (eqb flag header) (eqb flag update) neither in
+        omega (arith, v .owners .small (T s) (tail-le v), eqb-false flag header (no .0), eqb-false flag update (no .1))
 
-  full-next : top s .phase ≡ phase.Want → S s ≤ usedOf s (T s) → After (planFull (s .size) (s .places) n flag)
-  full-next q out =
-      by-cond After (samePage (s .places .tail) (s .places .reader)) (λ t. push-look q (look-reader v deep q out (eqb-true _ _ t))) (λ n1.
-      by-cond After (samePage n (s .places .commit)) (λ t. drop-next q) (λ n2.
-      by-cond After (eqb flag header && readerOnCommit (s .places)) (λ t. drop-next q) (λ n3.
-      by-cond After (eqb flag header && eqb (s .size .mode) stop) (λ t. drop-next q) (λ n4.
-      by-cond After (eqb flag header || eqb flag update)
-      (λ t. mark-look q (look-mark v deep q out (eqb-false _ _ n2) (λ f. eqb-false _ _ (and-false _ _ n3 (eq-eqb flag header f)))))
-      (λ n5.
-      let no = or-false (eqb flag header) (eqb flag update) n5 in
-      push-look q
-      (look-push v deep q out (omega (arith, tail-flag, eqb-false flag header (no .0), eqb-false flag update (no .1)))))))))
+    full-next : S s ≤ usedOf s (T s) → After (planFull (s .size) (s .places) n flag)
+    full-next full =
+        by-cond After (samePage (s .places .tail) (s .places .reader)) (λ a. push-look (look-reader v deep want full (eqb-true _ _ a))) (λ not-a.
+        by-cond After (samePage n (s .places .commit)) (λ b. drop-next) (λ not-b.
+        by-cond After (eqb flag header && readerOnCommit (s .places)) (λ c. drop-next) (λ not-c.
+        by-cond After (eqb flag header && eqb (s .size .mode) stop) (λ d. drop-next) (λ not-d.
+        by-cond After (eqb flag header || eqb flag update)
+        (λ e. mark-look (look-mark v deep want full (eqb-false _ _ not-b) (λ q. eqb-false _ _ (and-false _ _ not-c (eq-eqb flag header q)))))
+        (λ not-e. push-look (look-push v deep want full (flag-normal not-e)))))))
 
   -- ---- MARK
 
-  -- a Marked changes nothing that the fates read
-  marked-fates : (t n : ℕ) → top s .phase ≡ Mark t n → FatesOf (mark (page t) (page n) s) (onMarked (top s .phase) s h)
-  marked-fates t n q =
-      subst (λ (ph : WriterPhase). FatesOf (mark (page t) (page n) s) (onMarked ph s h)) (sym q) (phase-fates (Promote t n true) (ap early q))
+  module _ (t n : ℕ) (phase-is : top s .phase ≡ Mark t n) where
+    -- a Marked changes nothing that the fates read
+    marked-fates : FatesOf (mark (page t) (page n) s) (onMarked (top s .phase) s h)
+    marked-fates =
+        subst (λ (ph : WriterPhase). FatesOf (mark (page t) (page n) s) (onMarked ph s h)) (sym phase-is) (phase-fates (Promote t n true) (ap early phase-is))
 
-  mark-next : (t n : ℕ) → top s .phase ≡ Mark t n → After (planMark (page t) (page n) (s .words))
-  mark-next t n q =
-      by-cond After (links (s .words) (page t) (page n) header)
-      (λ k.
-      let hw = eqb-true (getD (s .words) t 0) (4 * n + 1) k in
-      holds (turn (g .L)) (g .pc - 1) (N s - 1) (suc (g .a)) (g .r0) (g .gap + S s)
-      (marked-control v deep t n q hw)
-      (marked-accounts v b deep t n q hw)
-      (marked-fates t n q)
-      (bounds-flag (setPhase (Promote t n true) s) (phase-bounds (Promote t n true) tt) t n 2 (omega arith) (omega arith)))
-      (λ k.
-      by-cond After (links (s .words) (page t) (page n) update)
-      (λ l.
-      same
-      (shared-control v deep t n q (eqb-true _ _ l))
-      (phase-acc (Promote t n false) (ap early q) refl (λ p o. absurd o))
-      (phase-fates _ (ap early q))
-      (phase-bounds _ tt))
-      (λ l. same (retry-control v deep t n q) (phase-acc phase.Want (ap early q) refl (λ p o. absurd o)) (phase-fates _ (ap early q)) (phase-bounds _ tt)))
+    marked-next : getD (s .words) t 0 ≡ 4 * n + 1 → After (move.Mark (page t) (page n))
+    marked-next word-is =
+        holds (turn (g .L)) (g .pc - 1) (g .pt - 1) (suc (g .a)) (g .r0) (g .gap + S s)
+        (marked-control v deep t n phase-is word-is)
+        (marked-accounts v b deep t n phase-is word-is)
+        marked-fates
+        (bounds-flag (setPhase (Promote t n true) s) (phase-bounds (Promote t n true) tt) t n 2 (omega arith) (omega arith))
+
+    mark-next : After (planMark (page t) (page n) (s .words))
+    mark-next =
+        by-cond After (links (s .words) (page t) (page n) header)
+        (λ k. marked-next (eqb-true _ _ k))
+        (λ k.
+        by-cond After (links (s .words) (page t) (page n) update)
+        (λ l. rephased (Promote t n false) (ap early phase-is) refl (λ p o. o) tt (shared-control v deep t n phase-is (eqb-true _ _ l)))
+        (λ l. rephased phase.Want (ap early phase-is) refl (λ p o. o) tt (retry-control v deep t n phase-is)))
 
   -- ---- PROMOTE
 
-  module _ (t n : ℕ) (own : Bool) (q : top s .phase ≡ Promote t n own) where
+  module _ (t n : ℕ) (own : Bool) (phase-is : top s .phase ≡ Promote t n own) where
     abbrev then : WriterPhase
     then = afterPromote (page t) (page n) own
 
     after-accounts : Accounts (setPhase then s) h (g .L) (g .pc) (g .pt) (g .a) (g .r0) (g .gap)
-    after-accounts = phase-acc then (ap early q) (early-after own t n) (λ p o. subst (λ (f : WriterPhase). Owns f p) (sym q) (own-after own t n p o))
+    after-accounts =
+        phase-accounts b deep (v .depth) then (ap early phase-is) (early-after own t n)
+        (λ p o. subst (λ (ph : WriterPhase). Owns ph p) (sym phase-is) (own-after own t n p o))
 
     after-fates : FatesOf (setPhase then s) h
-    after-fates = phase-fates then (ap early q ∙ sym (early-after own t n))
+    after-fates = phase-fates then (ap early phase-is ∙ sym (early-after own t n))
 
     after-bounds : BoundsOf (setPhase then s)
     after-bounds = phase-bounds then (aim-after (N s) own t n)
 
     promote-by : (r : Search) → Tells (s .words) (N s) (R s) r → After (promoteBy r (page n) then)
-    promote-by (found.At p q0) k =
-        same (standing-control v deep t n own q (head-of (v .flags) (p .0) (k .0) (k .1) (k .2))) after-accounts after-fates after-bounds
+    promote-by (found.At p q) k =
+        holds-same g (standing-control v deep t n own phase-is (head-of (v .flags) (p .0) (k .0) (k .1) (k .2))) after-accounts after-fates after-bounds
     promote-by found.Nowhere k =
-        same
-        (promoted-control v deep t n own q k)
+        holds-same g
+        (promoted-control v deep t n own phase-is k)
         (words-accounts after-accounts _)
         after-fates
         (bounds-flag (setPhase then s) after-bounds n (nextOf (s .words) n) 1 (omega arith) refl)
@@ -214,64 +208,72 @@ module _ (x : ℕ) (s : Ring) (h : History) (g : Invariant s h) (deep : 1 ≤ s 
 
   -- ---- CLEAR
 
-  -- the mark is still there: only its owner clears it
-  clear-word : (t n : ℕ) → top s .phase ≡ Clear t n → getD (s .words) t 0 ≡ 4 * n + 2
-  clear-word t n q =
-      let r = top-ok v deep (Clear t n) q in
-      omega (arith, r .0 .next, r .1)
+  module _ (t n : ℕ) (phase-is : top s .phase ≡ Clear t n) where
+    -- the mark is still there: only its owner clears it
+    clear-word : getD (s .words) t 0 ≡ 4 * n + 2
+    clear-word =
+        let r = top-ok v deep (Clear t n) phase-is in
+        omega (arith, r .0 .next, r .1)
 
-  clear-next : (t n : ℕ) → top s .phase ≡ Clear t n → After (planClear (page t) (page n) (s .words))
-  clear-next t n q =
-      by-cond After (links (s .words) (page t) (page n) update)
-      (λ k.
-      same
-      (cleared-control v deep t n q)
-      (words-accounts (phase-acc (Push t n) (ap early q) refl (λ p o. absurd o)) _)
-      (phase-fates (Push t n) (ap early q))
-      (bounds-flag (setPhase (Push t n) s) (phase-bounds (Push t n) tt) t n 0 (omega arith) (omega (arith, clear-word t n q))))
-      (λ k. absurd (eqb-false _ _ k (clear-word t n q)))
+    cleared-next : After (move.Clear (page t) (page n))
+    cleared-next =
+        holds-same g
+        (cleared-control v deep t n phase-is)
+        (words-accounts (phase-accounts b deep (v .depth) (Push t n) (ap early phase-is) refl (λ p o. absurd o)) _)
+        (phase-fates (Push t n) (ap early phase-is))
+        (bounds-flag (setPhase (Push t n) s) (phase-bounds (Push t n) tt) t n 0 (omega arith) (omega (arith, clear-word)))
+
+    clear-next : After (planClear (page t) (page n) (s .words))
+    clear-next = by-cond After (links (s .words) (page t) (page n) update) (λ k. cleared-next) (λ k. absurd (eqb-false _ _ k clear-word))
 
   -- ---- PUSH
 
-  pushed-next : (t n : ℕ) → top s .phase ≡ Push t n → T s ≡ t → After (move.Push (page n))
-  pushed-next t n q tl =
-      let u = pushed-control v deep t n q tl in
-      let o = top-ok v deep (Push t n) q in
-      let full : usedOf s (T s) ≡ S s = ap (usedOf s) tl ∙ o .spot .full in
-      let empty : usedOf s n ≡ 0 = ap (usedOf s) (sym (u .order .tailAt)) ∙ v .order .empty (suc (g .pt)) (omega arith) (u .order .top) in
-      holds (g .L) (g .pc) (suc (g .pt)) (g .a) (g .r0) (g .gap) u
-      (tail-accounts (phase-acc phase.Want (ap early q) refl (λ p z. absurd z)) n full empty)
-      (phase-fates _ (ap early q))
-      (phase-bounds _ tt)
+  module _ (t n : ℕ) (phase-is : top s .phase ≡ Push t n) where
+    pushed-next : T s ≡ t → After (move.Push (page n))
+    pushed-next tail =
+        let control = pushed-control v deep t n phase-is tail in
+        let full : usedOf s (T s) ≡ S s = ap (usedOf s) tail ∙ top-ok v deep (Push t n) phase-is .spot .full in
+        let empty : usedOf s n ≡ 0 = ap (usedOf s) (sym (control .order .tailAt)) ∙ v .order .empty (suc (g .pt)) (omega arith) (control .order .top) in
+        holds (g .L) (g .pc) (suc (g .pt)) (g .a) (g .r0) (g .gap) control
+        (tail-accounts (phase-accounts b deep (v .depth) phase.Want (ap early phase-is) refl (λ p o. absurd o)) n full empty)
+        (phase-fates phase.Want (ap early phase-is))
+        (phase-bounds phase.Want tt)
 
-  push-next : (t n : ℕ) → top s .phase ≡ Push t n → After (planPush (s .places) (page t) (page n))
-  push-next t n q =
-      by-cond After (samePage (s .places .tail) (page t))
-      (λ k. pushed-next t n q (eqb-true _ _ k))
-      (λ k. same (passed-control v deep t n q) (phase-acc phase.Want (ap early q) refl (λ p o. absurd o)) (phase-fates _ (ap early q)) (phase-bounds _ tt))
+    push-next : After (planPush (s .places) (page t) (page n))
+    push-next =
+        by-cond After (samePage (s .places .tail) (page t))
+        (λ k. pushed-next (eqb-true _ _ k))
+        (λ k. rephased phase.Want (ap early phase-is) refl (λ p o. o) tt (passed-control v deep t n phase-is))
 
   -- ---- HELD and FILLED
 
   fill-next : (p j : ℕ) → top s .phase ≡ Held p j → After (move.Fill (page p) j)
-  fill-next p j q =
-      same (filled-control v deep p j q) (filled-accounts v b deep p j q) (phase-fates phase.Filled (ap early q)) (phase-bounds phase.Filled tt)
+  fill-next p j held =
+      holds-same g
+      (filled-control v deep p j held)
+      (filled-accounts v b deep p j held)
+      (phase-fates phase.Filled (ap early held))
+      (phase-bounds phase.Filled tt)
 
-  filled-next : top s .phase ≡ phase.Filled → After (planFilled (s .depth))
-  filled-next q =
-      by-cond After (eqb (s .depth) 1)
-      (λ k.
-      let one = eqb-true (s .depth) 1 k in
-      holds (g .L) (g .pt) (g .pt) (g .a) (g .r0) (g .gap)
-      (committed-control v deep q one)
-      (committed-accounts b deep (v .depth) v q one)
-      (fates-ended (fates-committed (g .fates)) deep (below-top noWriter) (ap early q))
-      (bounds-commit s (g .bounds)))
-      (λ k.
-      same
-      (pending-control v deep q)
-      (pending-accounts b deep (v .depth) q)
-      (fates-ended (g .fates) deep (below-top noWriter) (ap early q))
-      (bounds-pop s (g .bounds)))
+  module _ (filled : top s .phase ≡ phase.Filled) where
+    commit-next : s .depth ≡ 1 → After move.Commit
+    commit-next one =
+        holds (g .L) (g .pt) (g .pt) (g .a) (g .r0) (g .gap)
+        (committed-control v deep filled one)
+        (committed-accounts b deep (v .depth) v filled one)
+        (fates-ended (fates-committed (g .fates)) deep (early-below noWriter) (ap early filled))
+        (bounds-commit s (g .bounds))
+
+    pend-next : After move.Pend
+    pend-next =
+        holds-same g
+        (pending-control v deep filled)
+        (pending-accounts b deep (v .depth) filled)
+        (fates-ended (g .fates) deep (early-below noWriter) (ap early filled))
+        (bounds-pop s (g .bounds))
+
+    filled-next : After (planFilled (s .depth))
+    filled-next = by-cond After (eqb (s .depth) 1) (λ k. commit-next (eqb-true (s .depth) 1 k)) (λ k. pend-next)
 
   -- ---- by the top record's phase
 
@@ -296,5 +298,5 @@ write-next x s h g =
     (λ d. rw (fits, d) g)
     (λ d.
     let some = eqb-false (s .depth) 0 d in
-    rw (fits, d) (phase-next x s h g (omega arith) (top s .phase) refl)))
+    rw (fits, d) (phase-next x g (omega arith) (top s .phase) refl)))
     (λ fits. rw fits g)
