@@ -35,11 +35,11 @@ module _ {s : Ring} {h : History} {L : ℕ → ℕ} {pc pt a r0 gap : ℕ} (v : 
   P = place (R s) L
 
   -- the slot
-  abbrev u : ℕ
-  u = usedOf s (T s)
+  abbrev new-slot : ℕ
+  new-slot = usedOf s (T s)
 
-  abbrev at : ℕ
-  at = cell (S s) (T s) (usedOf s (T s))
+  abbrev new-cell : ℕ
+  new-cell = cell (S s) (T s) (usedOf s (T s))
 
   abbrev used' : List ℕ
   used' = set (s .used) (T s) (usedOf s (T s) + 1)
@@ -59,11 +59,11 @@ module _ {s : Ring} {h : History} {L : ℕ → ℕ} {pc pt a r0 gap : ℕ} (v : 
 
   -- ---- used
 
-  used-same : getD used' (T s) 0 ≡ u + 1
-  used-same = getD-set-same (s .used) (T s) (u + 1) 0 (omega (arith, tail-le v, v .order .room))
+  used-same : getD used' (T s) 0 ≡ new-slot + 1
+  used-same = getD-set-same (s .used) (T s) (new-slot + 1) 0 (omega (arith, tail-le v, v .order .room))
 
   used-other : (p : ℕ) → p ≢ T s → getD used' p 0 ≡ usedOf s p
-  used-other p n = getD-set-other (s .used) (T s) p (u + 1) 0 n
+  used-other p n = getD-set-other (s .used) (T s) p (new-slot + 1) 0 n
 
   grows : (p : ℕ) → usedOf s p ≤ getD used' p 0
   grows p =
@@ -72,30 +72,30 @@ module _ {s : Ring} {h : History} {L : ℕ → ℕ} {pc pt a r0 gap : ℕ} (v : 
       (λ n. omega (arith, used-other p n))
 
   -- a slot below used is the new one, or an old one
-  split : {A : Type 0} (p j : ℕ) → j < getD used' p 0 → (p ≡ T s → j ≡ u → A) → (j < usedOf s p → A) → A
-  split p j hj fresh old =
+  slot-cases : {A : Type 0} (p j : ℕ) → j < getD used' p 0 → (p ≡ T s → j ≡ new-slot → A) → (j < usedOf s p → A) → A
+  slot-cases p j hj fresh old =
       by-eq p (T s)
       (λ z.
-      let y : j < u + 1 = subst (λ (k : ℕ). j < k) (ap (λ (k : ℕ). getD used' k 0) z ∙ used-same) hj in
-      by-eq j u (λ w. fresh z w) (λ n. old (subst (λ (k : ℕ). j < usedOf s k) (sym z) (omega arith))))
+      let y : j < new-slot + 1 = subst (λ (k : ℕ). j < k) (ap (λ (k : ℕ). getD used' k 0) z ∙ used-same) hj in
+      by-eq j new-slot (λ w. fresh z w) (λ n. old (subst (λ (k : ℕ). j < usedOf s k) (sym z) (omega arith))))
       (λ n. old (subst (λ (k : ℕ). j < k) (used-other p n) hj))
 
   -- ---- numbers
 
-  number-new : getD numbers' at 0 ≡ s .counts .taken
+  number-new : getD numbers' new-cell 0 ≡ s .counts .taken
   number-new =
       let z = b .sizes in
-      let inside = cell-room (S s) (T s) u (omega (arith, tail-le v, z .pages)) (z .slots) (omega (arith, z .slots)) in
-      getD-set-same (s .numbers) at (s .counts .taken) 0 (omega (arith, b .rooms .numbers-room))
+      let inside = cell-room (S s) (T s) new-slot (omega (arith, tail-le v, z .pages)) (z .slots) (omega (arith, z .slots)) in
+      getD-set-same (s .numbers) new-cell (s .counts .taken) 0 (omega (arith, b .rooms .numbers-room))
 
-  number-at : (p j : ℕ) → p ≡ T s → j ≡ u → getD numbers' (cell (S s) p j) 0 ≡ s .counts .taken
+  number-at : (p j : ℕ) → p ≡ T s → j ≡ new-slot → getD numbers' (cell (S s) p j) 0 ≡ s .counts .taken
   number-at p j z y = ap (λ (k : ℕ). getD numbers' (cell (S s) k j) 0) z ∙ ap (λ (k : ℕ). getD numbers' (cell (S s) (T s) k) 0) y ∙ number-new
 
   number-old : (p j : ℕ) → p ≤ N s → j < usedOf s p → getD numbers' (cell (S s) p j) 0 ≡ getD (s .numbers) (cell (S s) p j) 0
   number-old p j hp hj =
-      getD-set-other (s .numbers) at (cell (S s) p j) (s .counts .taken) 0
+      getD-set-other (s .numbers) new-cell (cell (S s) p j) (s .counts .taken) 0
       (λ z.
-      let y = cell-once (S s) p (T s) j u (omega (arith, b .cap p hp)) room z in
+      let y = cell-once (S s) p (T s) j new-slot (omega (arith, b .cap p hp)) room z in
       omega (arith, ap (usedOf s) (y .0), y .1))
 
   at-tail : (i : ℕ) → i ≤ N s → P i ≡ T s → i ≡ pt
@@ -105,18 +105,18 @@ module _ {s : Ring} {h : History} {L : ℕ → ℕ} {pc pt a r0 gap : ℕ} (v : 
   numbers-kept =
       record {
         slot = λ i j lo hi hj.
-            split (P i) j hj
+            slot-cases (P i) j hj
             (λ z y. omega (arith, number-at (P i) j z y, b .sums .takenIs, ap (λ (k : ℕ). S s * (a + k)) (at-tail i hi z)))
             (λ o. omega (arith, number-old (P i) j (place-le (v .links .cycle) i) o, b .numbers .slot i j lo hi o));
         reader = λ j hj.
-            split (R s) j hj
+            slot-cases (R s) j hj
             (λ z y.
             let first : pt ≡ 0 = sym (at-tail 0 (omega arith) z) in
             let from = b .sums .readerFrom (omega (arith, v .order .le)) in
             omega (arith, number-at (R s) j z y, b .sums .takenIs, ap (λ (k : ℕ). S s * (a + k)) first))
             (λ o. omega (arith, number-old (R s) j (v .links .cycle .reader) o, b .numbers .reader j o));
         below = λ p j hp hj.
-            split p j hj
+            slot-cases p j hj
             (λ z y. omega (arith, number-at p j z y))
             (λ o. omega (arith, number-old p j hp o, b .numbers .below p j hp o));
       }
@@ -178,7 +178,7 @@ module _ {s : Ring} {h : History} {L : ℕ → ℕ} {pc pt a r0 gap : ℕ} (v : 
 
   -- ---- values
 
-  new-holding : Holding numbers' used' (S s) P pc pt (s .counts .committed) readings' (T s) u (top s .value)
+  new-holding : Holding numbers' used' (S s) P pc pt (s .counts .committed) readings' (T s) new-slot (top s .value)
   new-holding =
       record {
         k = pt;
@@ -221,8 +221,8 @@ module _ {s : Ring} {h : History} {L : ℕ → ℕ} {pc pt a r0 gap : ℕ} (v : 
             (held-map (s .numbers) numbers' (s .used) used' (S s) P P pc pc pt pt (s .counts .committed) (s .counts .committed) (h .readings) readings' holding-kept
             (storedAt (s .stack) i) (phaseAt (s .stack) i) (b .values .held i hi)));
         stored = λ p j hp hj free.
-            split p j hj
-            (λ z y. absurd (free (topAt s) (omega arith) (phase-same (s .stack) (topAt s) held (top-below v deep) ∙ ap (λ (k : ℕ). Held k u) (sym z) ∙ ap (Held p) (sym y))))
+            slot-cases p j hj
+            (λ z y. absurd (free (topAt s) (omega arith) (phase-same (s .stack) (topAt s) held (top-below v deep) ∙ ap (λ (k : ℕ). Held k new-slot) (sym z) ∙ ap (Held p) (sym y))))
             (λ o.
             b .values .stored p j hp o (unheld b deep (v .depth) held p j (early-not-held p j (ap early want)) free)
             ∙ sym (ap (valueOf readings') (number-old p j hp o) ∙ value-kept _ (b .numbers .below p j hp o)));
@@ -266,7 +266,7 @@ module _ {s : Ring} {h : History} {L : ℕ → ℕ} {pc pt a r0 gap : ℕ} (v : 
   reserved-accounts =
       record {
         sizes = b .sizes;
-        rooms = record { numbers-room = length-set (s .numbers) at (s .counts .taken) ∙ b .rooms .numbers-room; values-room = b .rooms .values-room };
+        rooms = record { numbers-room = length-set (s .numbers) new-cell (s .counts .taken) ∙ b .rooms .numbers-room; values-room = b .rooms .values-room };
         cap = cap-kept;
         numbers = numbers-kept;
         sums = sums-kept;

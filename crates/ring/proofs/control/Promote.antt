@@ -63,7 +63,7 @@ module _ {s : Ring} {L : ℕ → ℕ} {pc pt : ℕ} (v : Control s L pc pt) (dee
 
   -- ---- owners of marks
 
-  -- a mark of the before words is the record's own still, or was not its own
+  -- a mark of the old words is the record's own still, or was not its own
   source : (p : ℕ) → flagOf (s .words) p ≡ 2 → Owns next p ⊎ ((flagOf (s .words) p ≡ 2) × ¬ Owns (top s .phase) p)
   source p f = ⊎-elim (λ q. inl q) (λ q. inr (f, subst (λ (x : WriterPhase). ¬ Owns x p) (sym phase-is) q)) (own-or own t n p)
 
