@@ -64,10 +64,7 @@ module _ {s : Ring} {h : History} {L : ℕ → ℕ} {pc pt a r0 gap : ℕ} (b : 
   pub begun-accounts : Accounts (begin v s .ring) (onBegun v h) L pc pt a r0 gap
   begun-accounts =
       record {
-        sizes = b .sizes;
-        rooms = b .rooms;
-        cap = b .cap;
-        numbers = b .numbers;
+        contents = b .contents;
         sums = b .sums;
         values = record {
           held = held';
@@ -75,10 +72,8 @@ module _ {s : Ring} {h : History} {L : ℕ → ℕ} {pc pt a r0 gap : ℕ} (b : 
               b .values .stored p j hp hj (λ i hi z. no i (omega arith) (phase-other (s .stack) (s .depth) i new (omega arith) ∙ z));
         };
         quiet = b .quiet;
-        past = b .past;
-        ordered = b .ordered;
+        recorded = b .recorded;
         work = work';
         balance = omega (arith, b .balance, earlies-new);
-        rightly = b .rightly;
         stackRoom = length-set (s .stack) (s .depth) new ∙ b .stackRoom;
       }

@@ -36,7 +36,7 @@ module _ {s : Ring} {h : History} {L : ℕ → ℕ} {pc pt a r0 gap : ℕ} (v : 
   events' = h .events ++ (record { number = numberAt s (s .places .reader) (s .places .position); value = valueAt s (s .places .reader) (s .places .position) } ∷ [])
 
   m-is : m ≡ r0 + position
-  m-is = b .numbers .reader position inPage
+  m-is = b .contents .numbers .reader position inPage
 
   m-committed : m < s .counts .committed
   m-committed =
@@ -78,7 +78,7 @@ module _ {s : Ring} {h : History} {L : ℕ → ℕ} {pc pt a r0 gap : ℕ} (v : 
 
   past-kept : Past events' (lostOf (h .overwritings)) (h .readings) (s .counts .handed + 1) (s .counts .overwritten) r0 (position + 1) (usedOf s (R s)) gap
   past-kept =
-      let k = b .past in
+      let k = b .recorded .past in
       let mi = m-is in
       record {
         handedIs = size ∙ ap (λ (i : ℕ). i + 1) (k .handedIs);
@@ -123,10 +123,7 @@ module _ {s : Ring} {h : History} {L : ℕ → ℕ} {pc pt a r0 gap : ℕ} (v : 
   event-accounts =
       let c = b .sums in
       record {
-        sizes = b .sizes;
-        rooms = b .rooms;
-        cap = b .cap;
-        numbers = b .numbers;
+        contents = b .contents;
         sums = record {
           takenIs = c .takenIs;
           committedIs = c .committedIs;
@@ -140,10 +137,12 @@ module _ {s : Ring} {h : History} {L : ℕ → ℕ} {pc pt a r0 gap : ℕ} (v : 
         };
         values = b .values;
         quiet = subst (λ (q : ReaderPhase). Quiet q (position + 1) (usedOf s (R s))) (sym idle) tt;
-        past = past-kept;
-        ordered = b .ordered;
+        recorded = record {
+          past = past-kept;
+          ordered = b .recorded .ordered;
+          rightly = b .recorded .rightly;
+        };
         work = b .work;
         balance = b .balance;
-        rightly = b .rightly;
         stackRoom = b .stackRoom;
       }

@@ -51,13 +51,13 @@ module _ {s : Ring} {h : History} {L : ℕ → ℕ} {pc pt a r0 gap : ℕ} (v : 
   p≤N = placed-le v (holding .k) p (holding .is)
 
   j<S : j < S s
-  j<S = omega (arith, b .cap p p≤N, holding .slot)
+  j<S = omega (arith, b .contents .cap p p≤N, holding .slot)
 
   -- in the slot itself
   stored-here : getD values' (cell (S s) p j) 0 ≡ valueOf (h .readings) (getD (s .numbers) (cell (S s) p j) 0)
   stored-here =
-      let room = cell-room (S s) p j (omega (arith, p≤N, b .sizes .pages)) (b .sizes .slots) (omega (arith, j<S, b .sizes .slots)) in
-      getD-set-same (s .values) (cell (S s) p j) value 0 (omega (arith, b .rooms .values-room)) ∙ holding .own
+      let room = cell-room (S s) p j (omega (arith, p≤N, b .contents .sizes .pages)) (b .contents .sizes .slots) (omega (arith, j<S, b .contents .sizes .slots)) in
+      getD-set-same (s .values) (cell (S s) p j) value 0 (omega (arith, b .contents .rooms .values-room)) ∙ holding .own
 
   -- in any slot that no record holds now
   stored : (q i : ℕ) → q ≤ N s → i < usedOf s q → ((k : ℕ) → k < s .depth → phaseAt (set (s .stack) (topAt s) filled) k ≡ Held q i → ⊥)
@@ -76,18 +76,18 @@ module _ {s : Ring} {h : History} {L : ℕ → ℕ} {pc pt a r0 gap : ℕ} (v : 
   pub filled-accounts : Accounts (fill (page p) j s) h L pc pt a r0 gap
   filled-accounts =
       record {
-        sizes = b .sizes;
-        rooms = record { numbers-room = b .rooms .numbers-room; values-room = length-set (s .values) (cell (S s) p j) value ∙ b .rooms .values-room };
-        cap = b .cap;
-        numbers = b .numbers;
+        contents = record {
+          sizes = b .contents .sizes;
+          rooms = record { numbers-room = b .contents .rooms .numbers-room; values-room = length-set (s .values) (cell (S s) p j) value ∙ b .contents .rooms .values-room };
+          cap = b .contents .cap;
+          numbers = b .contents .numbers;
+        };
         sums = b .sums;
         values = record { held = held-top b deep (v .depth) filled tt; stored = stored };
         quiet = b .quiet;
-        past = b .past;
-        ordered = b .ordered;
+        recorded = b .recorded;
         work = work-top (h .marker) (s .stack) (s .depth) (topAt s) filled (h .working) (omega (arith, v .depth)) refl (λ k o. absurd o) (b .work);
         balance =
             omega (arith, balance-top b deep (v .depth), earlies-set b deep (v .depth) filled, ap early phase-is);
-        rightly = b .rightly;
         stackRoom = length-set (s .stack) (topAt s) filled ∙ b .stackRoom;
       }

@@ -191,4 +191,4 @@ pub committed-taken : {s : Ring} {h : History} {L : ℕ → ℕ} {pc pt a r0 gap
 committed-taken {s} {L = L} v b =
     committed-le (b .sums) (v .order .le)
     (λ e. ap (usedOf s) (sym (v .order .commitAt) ∙ ap (place (R s) L) e ∙ v .order .tailAt))
-    (b .cap (C s) (commit-le v))
+    (b .contents .cap (C s) (commit-le v))

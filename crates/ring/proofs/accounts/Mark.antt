@@ -85,7 +85,7 @@ module _ {s : Ring} {h : History} {L : ℕ → ℕ} {pc pt a r0 gap : ℕ} (v : 
   n-number : (j : ℕ) → j < S s → getD (s .numbers) (cell (S s) n j) 0 ≡ S s * a + j
   n-number j hj =
       let below : j < usedOf s (P 1) = subst (λ (k : ℕ). j < k) (sym n-full ∙ ap (usedOf s) n-is) hj in
-      let first = b .numbers .slot 1 j (omega arith) (omega (arith, v .links .cycle .two)) below in
+      let first = b .contents .numbers .slot 1 j (omega arith) (omega (arith, v .links .cycle .two)) below in
       omega (arith, ap (λ (k : ℕ). getD (s .numbers) (cell (S s) k j) 0) n-is)
 
   -- ---- the numbers lost
@@ -133,7 +133,7 @@ module _ {s : Ring} {h : History} {L : ℕ → ℕ} {pc pt a r0 gap : ℕ} (v : 
 
   past-kept : Past (h .events) lost' (h .readings) (s .counts .handed) (s .counts .overwritten + usedOf s n) r0 (s .places .position) (getD used' (R s) 0) (gap + S s)
   past-kept =
-      let k = b .past in
+      let k = b .recorded .past in
       let same = kept (R s) R≢n in
       let rd = b .sums .read in
       record {
@@ -167,9 +167,9 @@ module _ {s : Ring} {h : History} {L : ℕ → ℕ} {pc pt a r0 gap : ℕ} (v : 
   numbers-kept : Numbers (s .numbers) used' (N s) (S s) (R s) P' (suc a) r0 (s .counts .taken)
   numbers-kept =
       record {
-        slot = lower-number (s .used) n n-room (b .numbers) P' (newest-now v deep t n phase-is word-is) (λ i lo hi. place-turn (R s) L i lo);
-        reader = λ j hj. b .numbers .reader j (subst (λ (k : ℕ). j < k) (kept (R s) R≢n) hj);
-        below = emptied-below (s .used) n n-room (b .numbers);
+        slot = lower-number (s .used) n n-room (b .contents .numbers) P' (newest-now v deep t n phase-is word-is) (λ i lo hi. place-turn (R s) L i lo);
+        reader = λ j hj. b .contents .numbers .reader j (subst (λ (k : ℕ). j < k) (kept (R s) R≢n) hj);
+        below = emptied-below (s .used) n n-room (b .contents .numbers);
       }
 
   holding-kept : (p j w : ℕ) → Holding (s .numbers) (s .used) (S s) P pc pt (s .counts .committed) (h .readings) p j w
@@ -208,9 +208,9 @@ module _ {s : Ring} {h : History} {L : ℕ → ℕ} {pc pt a r0 gap : ℕ} (v : 
   n-committed : (j : ℕ) → j < usedOf s n → isCommitted (h .readings) (getD (s .numbers) (cell (S s) n j) 0) ≡ true
   n-committed j hj =
       let z = n-number j (omega (arith, n-full)) in
-      let lies = b .numbers .below n j n-le hj in
+      let lies = b .contents .numbers .below n j n-le hj in
       let after : S s * (a + 2) ≤ S s * (a + pc) = mul-le-mul-left (S s) (omega (arith, 2≤pc)) in
-      committed-at (b .ordered) _ lies
+      committed-at (b .recorded .ordered) _ lies
       ∙ lt-ltb _ (s .counts .committed) (omega (arith, b .sums .committedIs, n-full))
 
   rightly : RightlyTaken (record { page = page n; before = s; readings = h .readings })
@@ -218,14 +218,14 @@ module _ {s : Ring} {h : History} {L : ℕ → ℕ} {pc pt a r0 gap : ℕ} (v : 
       record {
         ring = record { page = n-le; apart = λ z. R≢n (sym (page-once z)) };
         lowest = 0;
-        there = omega (arith, n-full, b .sizes .some);
+        there = omega (arith, n-full, b .contents .sizes .some);
         oldest = λ p j rp ne hj.
             let o = ring-place (v .links .cycle) (p .0) (rp .page) (λ z. rp .apart (ap page z)) in
             let notFirst : o .0 ≢ 1 = λ q. ne (ap page (sym (o .3) ∙ ap P q ∙ sym n-is)) in
-            let y = b .numbers .slot (o .0) j (o .1) (o .2) (subst (λ (k : ℕ). j < usedOf s k) (sym (o .3)) hj) in
+            let y = b .contents .numbers .slot (o .0) j (o .1) (o .2) (subst (λ (k : ℕ). j < usedOf s k) (sym (o .3)) hj) in
             let same = ap (λ (k : ℕ). getD (s .numbers) (cell (S s) k j) 0) (sym (o .3)) in
             let later : S s * (a + 2) ≤ S s * (a + o .0) = mul-le-mul-left (S s) (omega (arith, o .1)) in
-            omega (arith, n-number 0 (b .sizes .some), b .sizes .some);
+            omega (arith, n-number 0 (b .contents .sizes .some), b .contents .sizes .some);
         committed = n-committed;
         full = λ p rp.
             let o = ring-place (v .links .cycle) (p .0) (rp .page) (λ z. rp .apart (ap page z)) in
@@ -292,24 +292,28 @@ module _ {s : Ring} {h : History} {L : ℕ → ℕ} {pc pt a r0 gap : ℕ} (v : 
   mark-accounts : Accounts (mark (page t) (page n) s) (onMark (page t) (page n) s h) (turn L) (pc - 1) (pt - 1) (suc a) r0 (gap + S s)
   mark-accounts =
       record {
-        sizes = b .sizes;
-        rooms = b .rooms;
-        cap = emptied-cap (s .used) n n-room (N s) (S s) (b .cap);
-        numbers = numbers-kept;
+        contents = record {
+          sizes = b .contents .sizes;
+          rooms = b .contents .rooms;
+          cap = emptied-cap (s .used) n n-room (N s) (S s) (b .contents .cap);
+          numbers = numbers-kept;
+        };
         sums = sums-kept;
         values = values-kept;
         quiet =
             quiet-map (s .words) (N s) (R s) pc (s .places .position) uR (s .places .position) (getD used' (R s) 0) (λ lo q. q ∙ sym (kept (R s) R≢n))
             (s .reader .phase) (v .reader) (b .quiet);
-        past =
-            subst
-            (λ (l : List ℕ).
-            Past (h .events) l (h .readings) (s .counts .handed) (s .counts .overwritten + usedOf s n) r0 (s .places .position) (getD used' (R s) 0) (gap + S s))
-            (sym (lostOf-snoc (h .overwritings) _)) past-kept;
-        ordered = b .ordered;
+        recorded = record {
+          past =
+              subst
+              (λ (l : List ℕ).
+              Past (h .events) l (h .readings) (s .counts .handed) (s .counts .overwritten + usedOf s n) r0 (s .places .position) (getD used' (R s) 0) (gap + S s))
+              (sym (lostOf-snoc (h .overwritings) _)) past-kept;
+          ordered = b .recorded .ordered;
+          rightly = All-snoc RightlyTaken (h .overwritings) _ (b .recorded .rightly) rightly;
+        };
         work = work-kept;
         balance = omega (arith, balance-top b deep (v .depth), earlies-set b deep (v .depth) owner, ap early phase-is);
-        rightly = All-snoc RightlyTaken (h .overwritings) _ (b .rightly) rightly;
         stackRoom = length-set (s .stack) (topAt s) owner ∙ b .stackRoom;
       }
 

@@ -27,36 +27,26 @@ module _ {s : Ring} {h : History} {L : ℕ → ℕ} {pc pt a r0 gap : ℕ} (b : 
   pub words-accounts : (words : List ℕ) → Accounts (withWords words s) h L pc pt a r0 gap
   words-accounts words =
       record {
-        sizes = b .sizes;
-        rooms = b .rooms;
-        cap = b .cap;
-        numbers = b .numbers;
+        contents = b .contents;
         sums = b .sums;
         values = b .values;
         quiet = b .quiet;
-        past = b .past;
-        ordered = b .ordered;
+        recorded = b .recorded;
         work = b .work;
         balance = b .balance;
-        rightly = b .rightly;
         stackRoom = b .stackRoom;
       }
 
   pub reader-accounts : (ph : ReaderPhase) → Quiet ph (s .places .position) (usedOf s (R s)) → Accounts (withReaderPhase ph s) h L pc pt a r0 gap
   reader-accounts ph q =
       record {
-        sizes = b .sizes;
-        rooms = b .rooms;
-        cap = b .cap;
-        numbers = b .numbers;
+        contents = b .contents;
         sums = b .sums;
         values = b .values;
         quiet = q;
-        past = b .past;
-        ordered = b .ordered;
+        recorded = b .recorded;
         work = b .work;
         balance = b .balance;
-        rightly = b .rightly;
         stackRoom = b .stackRoom;
       }
 
@@ -99,20 +89,15 @@ module _ {s : Ring} {h : History} {L : ℕ → ℕ} {pc pt a r0 gap : ℕ} (b : 
     phase-accounts ph was is own =
         let w = rephase (s .stack) (topAt s) ph in
         record {
-          sizes = b .sizes;
-          rooms = b .rooms;
-          cap = b .cap;
-          numbers = b .numbers;
+          contents = b .contents;
           sums = b .sums;
           values = record {
             held = held-top w (held-early (s .numbers) (s .used) (S s) (place (R s) L) pc pt (s .counts .committed) (h .readings) (storedAt (s .stack) (topAt s)) ph is);
             stored = λ p j hp hj no. b .values .stored p j hp hj (unheld w p j (early-not-held p j was) no);
           };
           quiet = b .quiet;
-          past = b .past;
-          ordered = b .ordered;
+          recorded = b .recorded;
           work = work-top (h .marker) (s .stack) (s .depth) (topAt s) w (h .working) (omega arith) refl own (b .work);
           balance = omega (arith, balance-top, earlies-set w);
-          rightly = b .rightly;
           stackRoom = length-set (s .stack) (topAt s) w ∙ b .stackRoom;
         }

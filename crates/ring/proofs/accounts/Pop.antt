@@ -69,36 +69,26 @@ module _ {s : Ring} {h : History} {L : ℕ → ℕ} {pc pt a r0 gap : ℕ} (b : 
   pub pending-accounts : top s .phase ≡ phase.Filled → Accounts (pop s) (onEnded h) L pc pt a r0 gap
   pending-accounts q =
       record {
-        sizes = b .sizes;
-        rooms = b .rooms;
-        cap = b .cap;
-        numbers = b .numbers;
+        contents = b .contents;
         sums = b .sums;
         values = values' (filled-free q);
         quiet = b .quiet;
-        past = b .past;
-        ordered = b .ordered;
+        recorded = b .recorded;
         work = work';
         balance = balance' (s .counts .dropped) (omega (arith, ap early q));
-        rightly = b .rightly;
         stackRoom = length-set (s .stack) (topAt s) noWriter ∙ b .stackRoom;
       }
 
   pub dropped-accounts : top s .phase ≡ phase.Want → Accounts (drop s) (onDropped h) L pc pt a r0 gap
   dropped-accounts q =
       record {
-        sizes = b .sizes;
-        rooms = b .rooms;
-        cap = b .cap;
-        numbers = b .numbers;
+        contents = b .contents;
         sums = b .sums;
         values = values' (λ p j. early-not-held p j (ap early q));
         quiet = b .quiet;
-        past = b .past;
-        ordered = b .ordered;
+        recorded = b .recorded;
         work = work';
         balance = balance' (s .counts .dropped + 1) (omega (arith, ap early q));
-        rightly = b .rightly;
         stackRoom = length-set (s .stack) (topAt s) noWriter ∙ b .stackRoom;
       }
 
@@ -135,7 +125,7 @@ module _ {s : Ring} {h : History} {L : ℕ → ℕ} {pc pt a r0 gap : ℕ} (b : 
 
     past' : Past (h .events) (lostOf (h .overwritings)) readings' (s .counts .handed) (s .counts .overwritten) r0 (s .places .position) (usedOf s (R s)) gap
     past' =
-        let k = b .past in
+        let k = b .recorded .past in
         record {
           handedIs = k .handedIs;
           overwrittenIs = k .overwrittenIs;
@@ -152,7 +142,7 @@ module _ {s : Ring} {h : History} {L : ℕ → ℕ} {pc pt a r0 gap : ℕ} (b : 
 
     ordered' : Ordered readings' (s .counts .taken) (s .counts .taken)
     ordered' =
-        let o = b .ordered in
+        let o = b .recorded .ordered in
         record {
           size = length-allCommitted (h .readings) ∙ o .size;
           nth = λ k hk. allCommitted-number (h .readings) k ∙ o .nth k hk;
@@ -163,20 +153,19 @@ module _ {s : Ring} {h : History} {L : ℕ → ℕ} {pc pt a r0 gap : ℕ} (b : 
     pub committed-accounts : Accounts (commit s) (onCommitted h) L pt pt a r0 gap
     committed-accounts =
         record {
-          sizes = b .sizes;
-          rooms = b .rooms;
-          cap = b .cap;
-          numbers = b .numbers;
+          contents = b .contents;
           sums = sums';
           values = record {
             held = λ i hi. absurd (omega arith);
             stored = λ p j hp hj new. values' (filled-free q) .stored p j hp hj new ∙ same-value _;
           };
           quiet = b .quiet;
-          past = past';
-          ordered = ordered';
+          recorded = record {
+            past = past';
+            ordered = ordered';
+            rightly = b .recorded .rightly;
+          };
           work = work';
           balance = balance' (s .counts .dropped) (omega (arith, ap early q));
-          rightly = b .rightly;
           stackRoom = length-set (s .stack) (topAt s) noWriter ∙ b .stackRoom;
         }

@@ -15,10 +15,7 @@ pub tail-accounts : {s : Ring} {h : History} {L : ℕ → ℕ} {pc pt a r0 gap :
 tail-accounts {s} {h} {L} {pc} {pt} b n full empty =
     let c = b .sums in
     record {
-      sizes = b .sizes;
-      rooms = b .rooms;
-      cap = b .cap;
-      numbers = b .numbers;
+      contents = b .contents;
       sums = record {
         takenIs = omega (arith, c .takenIs);
         committedIs = c .committedIs;
@@ -39,10 +36,8 @@ tail-accounts {s} {h} {L} {pc} {pt} b n full empty =
         stored = b .values .stored;
       };
       quiet = b .quiet;
-      past = b .past;
-      ordered = b .ordered;
+      recorded = b .recorded;
       work = b .work;
       balance = b .balance;
-      rightly = b .rightly;
       stackRoom = b .stackRoom;
     }

@@ -84,9 +84,9 @@ module _ {s : Ring} {h : History} {L : ℕ → ℕ} {pc pt a r0 gap : ℕ} (v : 
 
   number-new : getD numbers' new-cell 0 ≡ s .counts .taken
   number-new =
-      let z = b .sizes in
+      let z = b .contents .sizes in
       let inside = cell-room (S s) (T s) new-slot (omega (arith, tail-le v, z .pages)) (z .slots) (omega (arith, z .slots)) in
-      getD-set-same (s .numbers) new-cell (s .counts .taken) 0 (omega (arith, b .rooms .numbers-room))
+      getD-set-same (s .numbers) new-cell (s .counts .taken) 0 (omega (arith, b .contents .rooms .numbers-room))
 
   number-at : (p j : ℕ) → p ≡ T s → j ≡ new-slot → getD numbers' (cell (S s) p j) 0 ≡ s .counts .taken
   number-at p j z y = ap (λ (k : ℕ). getD numbers' (cell (S s) k j) 0) z ∙ ap (λ (k : ℕ). getD numbers' (cell (S s) (T s) k) 0) y ∙ number-new
@@ -95,7 +95,7 @@ module _ {s : Ring} {h : History} {L : ℕ → ℕ} {pc pt a r0 gap : ℕ} (v : 
   number-old p j hp hj =
       getD-set-other (s .numbers) new-cell (cell (S s) p j) (s .counts .taken) 0
       (λ z.
-      let y = cell-once (S s) p (T s) j new-slot (omega (arith, b .cap p hp)) room z in
+      let y = cell-once (S s) p (T s) j new-slot (omega (arith, b .contents .cap p hp)) room z in
       omega (arith, ap (usedOf s) (y .0), y .1))
 
   at-tail : (i : ℕ) → i ≤ N s → P i ≡ T s → i ≡ pt
@@ -107,18 +107,18 @@ module _ {s : Ring} {h : History} {L : ℕ → ℕ} {pc pt a r0 gap : ℕ} (v : 
         slot = λ i j lo hi hj.
             slot-cases (P i) j hj
             (λ z y. omega (arith, number-at (P i) j z y, b .sums .takenIs, ap (λ (k : ℕ). S s * (a + k)) (at-tail i hi z)))
-            (λ o. omega (arith, number-old (P i) j (place-le (v .links .cycle) i) o, b .numbers .slot i j lo hi o));
+            (λ o. omega (arith, number-old (P i) j (place-le (v .links .cycle) i) o, b .contents .numbers .slot i j lo hi o));
         reader = λ j hj.
             slot-cases (R s) j hj
             (λ z y.
             let first : pt ≡ 0 = sym (at-tail 0 (omega arith) z) in
             let from = b .sums .readerFrom (omega (arith, v .order .le)) in
             omega (arith, number-at (R s) j z y, b .sums .takenIs, ap (λ (k : ℕ). S s * (a + k)) first))
-            (λ o. omega (arith, number-old (R s) j (v .links .cycle .reader) o, b .numbers .reader j o));
+            (λ o. omega (arith, number-old (R s) j (v .links .cycle .reader) o, b .contents .numbers .reader j o));
         below = λ p j hp hj.
             slot-cases p j hj
             (λ z y. omega (arith, number-at p j z y))
-            (λ o. omega (arith, number-old p j hp o, b .numbers .below p j hp o));
+            (λ o. omega (arith, number-old p j hp o, b .contents .numbers .below p j hp o));
       }
 
   -- ---- sums
@@ -146,7 +146,7 @@ module _ {s : Ring} {h : History} {L : ℕ → ℕ} {pc pt a r0 gap : ℕ} (v : 
   -- ---- readings
 
   size : length (h .readings) ≡ s .counts .taken
-  size = b .ordered .size
+  size = b .recorded .ordered .size
 
   value-kept : (m : ℕ) → m < s .counts .taken → valueOf readings' m ≡ valueOf (h .readings) m
   value-kept m hm = ap (λ (x : Numbered). x .own .value) (nthReading-before (h .readings) new m (omega (arith, size)))
@@ -161,7 +161,7 @@ module _ {s : Ring} {h : History} {L : ℕ → ℕ} {pc pt a r0 gap : ℕ} (v : 
 
   ordered-kept : Ordered readings' (s .counts .taken + 1) (s .counts .committed)
   ordered-kept =
-      let o = b .ordered in
+      let o = b .recorded .ordered in
       record {
         size = length-append (h .readings) _ ∙ omega (arith, size);
         nth = λ i hi.
@@ -202,7 +202,7 @@ module _ {s : Ring} {h : History} {L : ℕ → ℕ} {pc pt a r0 gap : ℕ} (v : 
         is = o .is;
         slot = omega (arith, grows p, o .slot);
         late = omega (arith, o .late);
-        own = o .own ∙ sym (ap (valueOf readings') n ∙ value-kept _ (b .numbers .below p j p≤N (o .slot)));
+        own = o .own ∙ sym (ap (valueOf readings') n ∙ value-kept _ (b .contents .numbers .below p j p≤N (o .slot)));
       }
 
   abbrev Ok : ℕ → WriterPhase → Type 0
@@ -225,14 +225,14 @@ module _ {s : Ring} {h : History} {L : ℕ → ℕ} {pc pt a r0 gap : ℕ} (v : 
             (λ z y. absurd (free (topAt s) (omega arith) (phase-same (s .stack) (topAt s) held (top-below v deep) ∙ ap (λ (k : ℕ). Held k new-slot) (sym z) ∙ ap (Held p) (sym y))))
             (λ o.
             b .values .stored p j hp o (unheld b deep (v .depth) held p j (early-not-held p j (ap early want)) free)
-            ∙ sym (ap (valueOf readings') (number-old p j hp o) ∙ value-kept _ (b .numbers .below p j hp o)));
+            ∙ sym (ap (valueOf readings') (number-old p j hp o) ∙ value-kept _ (b .contents .numbers .below p j hp o)));
       }
 
   -- ---- history
 
   past-kept : Past (h .events) (lostOf (h .overwritings)) readings' (s .counts .handed) (s .counts .overwritten) r0 (s .places .position) (getD used' (R s) 0) gap
   past-kept =
-      let k = b .past in
+      let k = b .recorded .past in
       let c = b .sums in
       record {
         handedIs = k .handedIs;
@@ -260,25 +260,29 @@ module _ {s : Ring} {h : History} {L : ℕ → ℕ} {pc pt a r0 gap : ℕ} (v : 
   cap-kept p hp =
       by-eq p (T s)
       (λ z. omega (arith, ap (λ (k : ℕ). getD used' k 0) z, used-same))
-      (λ n. omega (arith, used-other p n, b .cap p hp))
+      (λ n. omega (arith, used-other p n, b .contents .cap p hp))
 
   pub reserved-accounts : Accounts (reserve (s .places .tail) (usedOf s (T s)) s) (onReserved (s .counts .taken) h) L pc pt a r0 gap
   reserved-accounts =
       record {
-        sizes = b .sizes;
-        rooms = record { numbers-room = length-set (s .numbers) new-cell (s .counts .taken) ∙ b .rooms .numbers-room; values-room = b .rooms .values-room };
-        cap = cap-kept;
-        numbers = numbers-kept;
+        contents = record {
+          sizes = b .contents .sizes;
+          rooms = record { numbers-room = length-set (s .numbers) new-cell (s .counts .taken) ∙ b .contents .rooms .numbers-room; values-room = b .contents .rooms .values-room };
+          cap = cap-kept;
+          numbers = numbers-kept;
+        };
         sums = sums-kept;
         values = values-kept;
         quiet =
             quiet-map (s .words) (N s) (R s) pc (s .places .position) (usedOf s (R s)) (s .places .position) (getD used' (R s) 0)
             (λ lo y. y ∙ sym (used-other (R s) (off lo))) (s .reader .phase) (v .reader) (b .quiet);
-        past = past-kept;
-        ordered = ordered-kept;
+        recorded = record {
+          past = past-kept;
+          ordered = ordered-kept;
+          rightly = b .recorded .rightly;
+        };
         work = work-top (h .marker) (s .stack) (s .depth) (topAt s) held (h .working) (top-below v deep) refl (λ i w. absurd w) (b .work);
         balance =
             omega (arith, balance-top b deep (v .depth), earlies-set b deep (v .depth) held, ap early want);
-        rightly = b .rightly;
         stackRoom = length-set (s .stack) (topAt s) held ∙ b .stackRoom;
       }

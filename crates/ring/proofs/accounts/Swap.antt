@@ -55,11 +55,11 @@ module _ {s : Ring} {h : History} {L : ℕ → ℕ} {pc pt a r0 gap : ℕ} (v : 
   numbers-kept : Numbers (s .numbers) used' (N s) (S s) (L 0) P' (suc a) (S s * a) (s .counts .taken)
   numbers-kept =
       record {
-        slot = lower-number (s .used) (R s) R-room (b .numbers) P' (newest-swap v p h0 ready word-is) (λ i lo hi. place-swap (v .links .cycle) i hi);
+        slot = lower-number (s .used) (R s) R-room (b .contents .numbers) P' (newest-swap v p h0 ready word-is) (λ i lo hi. place-swap (v .links .cycle) i hi);
         reader = λ j hj.
             let was : j < usedOf s (L 0) = subst (λ (k : ℕ). j < k) (kept (L 0) (off 1 (omega arith))) hj in
-            omega (arith, b .numbers .slot 1 j (omega arith) (omega (arith, v .links .cycle .two)) was);
-        below = emptied-below (s .used) (R s) R-room (b .numbers);
+            omega (arith, b .contents .numbers .slot 1 j (omega arith) (omega (arith, v .links .cycle .two)) was);
+        below = emptied-below (s .used) (R s) R-room (b .contents .numbers);
       }
 
   holding-kept : (q j w : ℕ) → Holding (s .numbers) (s .used) (S s) P pc pt (s .counts .committed) (h .readings) q j w
@@ -91,7 +91,7 @@ module _ {s : Ring} {h : History} {L : ℕ → ℕ} {pc pt a r0 gap : ℕ} (v : 
 
   past-kept : Past (h .events) (lostOf (h .overwritings)) (h .readings) (s .counts .handed) (s .counts .overwritten) (S s * a) 0 (getD used' (L 0) 0) 0
   past-kept =
-      let k = b .past in
+      let k = b .recorded .past in
       let f = from in
       let ar = all-read in
       record {
@@ -111,10 +111,12 @@ module _ {s : Ring} {h : History} {L : ℕ → ℕ} {pc pt a r0 gap : ℕ} (v : 
   swapped-oldest : Accounts (swap (page p) (page (L 0)) s) h (swapped L (R s)) (pc - 1) (pt - 1) (suc a) (S s * a) 0
   swapped-oldest =
       record {
-        sizes = b .sizes;
-        rooms = b .rooms;
-        cap = emptied-cap (s .used) (R s) R-room (N s) (S s) (b .cap);
-        numbers = numbers-kept;
+        contents = record {
+          sizes = b .contents .sizes;
+          rooms = b .contents .rooms;
+          cap = emptied-cap (s .used) (R s) R-room (N s) (S s) (b .contents .cap);
+          numbers = numbers-kept;
+        };
         sums = sums-kept;
         values = record {
           held = λ i hi.
@@ -123,11 +125,13 @@ module _ {s : Ring} {h : History} {L : ℕ → ℕ} {pc pt a r0 gap : ℕ} (v : 
           stored = λ q j hq hj free. emptied-slot (s .used) (R s) R-room q j hj (λ ne o. b .values .stored q j hq o free);
         };
         quiet = tt;
-        past = past-kept;
-        ordered = b .ordered;
+        recorded = record {
+          past = past-kept;
+          ordered = b .recorded .ordered;
+          rightly = b .recorded .rightly;
+        };
         work = b .work;
         balance = b .balance;
-        rightly = b .rightly;
         stackRoom = b .stackRoom;
       }
 

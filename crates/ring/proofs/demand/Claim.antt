@@ -21,11 +21,11 @@ pub demand : {s : Ring} {h : History} {L : ℕ → ℕ} {pc pt a r0 gap : ℕ} �
 demand v b f =
     record {
       working = b .work .many;
-      numberedOnce = numbered-once (b .ordered);
-      numberedBelow = numbered-below (b .ordered);
+      numberedOnce = numbered-once (b .recorded .ordered);
+      numberedBelow = numbered-below (b .recorded .ordered);
       onePlace = one-place v b;
-      handedOnce = λ m x. handed-once (b .past) x;
-      handedValue = λ m k x. given-value (b .past) x ∙ sym (own-at (b .ordered) m (given-numbered v b x));
+      handedOnce = λ m x. handed-once (b .recorded .past) x;
+      handedValue = λ m k x. given-value (b .recorded .past) x ∙ sym (own-at (b .recorded .ordered) m (given-numbered v b x));
       handedNumbered = λ m k x. given-numbered v b x;
       handedCount = handed-count v b;
       overwrittenCount = overwritten-count v b;
@@ -34,9 +34,9 @@ demand v b f =
       sum = sum v b;
       begunCount = sym (f .begunIs);
       droppedCount = sym (f .droppedIs);
-      rising = λ m n j k x y lt. given-rising (b .past) x y lt;
+      rising = λ m n j k x y lt. given-rising (b .recorded .past) x y lt;
       above = λ m n o x. omega (arith, open-from v b o, settled-committed v b x);
-      oldestTaken = b .rightly;
+      oldestTaken = b .recorded .rightly;
       visits = visits v;
       marks = marks v b;
     }

@@ -23,11 +23,11 @@ module _ {s : Ring} {h : History} {L : ℕ → ℕ} {pc pt a r0 gap : ℕ} (v : 
 
   pub handed-count : Count (HandedOut (runAt s h)) (s .counts .taken) (s .counts .handed)
   handed-count =
-      rw (← b .past .handedIs)
+      rw (← b .recorded .past .handedIs)
       (count-map
       (λ m lt l. record { nth = l .nth; event = record { below = l .below; gave = l .is } })
       (λ m lt x. record { nth = x .nth; below = x .event .below; is = x .event .gave })
-      (rising-count (givenNumber (h .events)) (s .counts .taken) (length (h .events)) (b .past .rising)
+      (rising-count (givenNumber (h .events)) (s .counts .taken) (length (h .events)) (b .recorded .past .rising)
       (λ k lt. given-numbered (record { below = lt; gave = refl }))))
 
   -- ---- overwritten
@@ -42,11 +42,11 @@ module _ {s : Ring} {h : History} {L : ℕ → ℕ} {pc pt a r0 gap : ℕ} (v : 
 
   pub overwritten-count : Count (Overwritten (runAt s h)) (s .counts .taken) (s .counts .overwritten)
   overwritten-count =
-      rw (← b .past .overwrittenIs)
+      rw (← b .recorded .past .overwrittenIs)
       (count-map
       (λ m lt l. lost-out (h .overwritings) m (record { nth = l .nth; below = l .below; is = l .is }))
       (λ m lt x. let l = lost-in (h .overwritings) m x in record { nth = l .nth; below = l .below; is = l .is })
-      (rising-count lostNumber (s .counts .taken) (length (lostOf (h .overwritings))) (b .past .lostRising) lost-under))
+      (rising-count lostNumber (s .counts .taken) (length (lostOf (h .overwritings))) (b .recorded .past .lostRising) lost-under))
 
   -- ---- not yet committed
 

@@ -43,7 +43,7 @@ module _ {s : Ring} {h : History} {L : ℕ → ℕ} {pc pt a r0 gap : ℕ} (v : 
   -- ---- which numbers are in a place
 
   handed-low : {m : ℕ} → HandedOut (runAt s h) m → m < r0 + s .places .position
-  handed-low x = given-low (b .past) (x .event)
+  handed-low x = given-low (b .recorded .past) (x .event)
 
   pub handed-committed : {m : ℕ} → HandedOut (runAt s h) m → m < s .counts .committed
   handed-committed x = omega (arith, handed-low x, read-committed)
@@ -51,21 +51,21 @@ module _ {s : Ring} {h : History} {L : ℕ → ℕ} {pc pt a r0 gap : ℕ} (v : 
   lost-low : {m : ℕ} → Overwritten (runAt s h) m → m < r0 + usedOf s (R s) + gap
   lost-low {m} x =
       let l = lost-in (h .overwritings) m x in
-      omega (arith, b .past .lostLow (l .nth) (l .below))
+      omega (arith, b .recorded .past .lostLow (l .nth) (l .below))
 
   lost-apart : {m : ℕ} → Overwritten (runAt s h) m → m < r0 + s .places .position ⊎ r0 + usedOf s (R s) ≤ m
   lost-apart {m} x =
       let l = lost-in (h .overwritings) m x in
-      rw (l .is) at (b .past .lostApart (l .nth) (l .below))
+      rw (l .is) at (b .recorded .past .lostApart (l .nth) (l .below))
 
   pub lost-committed : {m : ℕ} → Overwritten (runAt s h) m → m < s .counts .committed
   lost-committed x = ⊎-elim (λ lt. omega (arith, read-committed)) (λ le. gap-committed le (lost-low x)) (lost-apart x)
 
   pub waiting-committed : {m : ℕ} → Waiting (runAt s h) m → m < s .counts .committed
-  waiting-committed {m} w = ltb-true m (s .counts .committed) (sym (committed-at (b .ordered) m (lies-below v b (w .slot .has .lies))) ∙ w .committed)
+  waiting-committed {m} w = ltb-true m (s .counts .committed) (sym (committed-at (b .recorded .ordered) m (lies-below v b (w .slot .has .lies))) ∙ w .committed)
 
   pub open-from : {m : ℕ} → NotCommitted (runAt s h) m → s .counts .committed ≤ m
-  open-from {m} o = ltb-false m (s .counts .committed) (sym (committed-at (b .ordered) m (lies-below v b (o .slot .has))) ∙ o .uncommitted)
+  open-from {m} o = ltb-false m (s .counts .committed) (sym (committed-at (b .recorded .ordered) m (lies-below v b (o .slot .has))) ∙ o .uncommitted)
 
   -- whatever is handed out, overwritten or waiting is committed
   pub settled-committed : {m : ℕ} → HandedOut (runAt s h) m ⊎ (Overwritten (runAt s h) m ⊎ Waiting (runAt s h) m) → m < s .counts .committed
@@ -86,12 +86,12 @@ module _ {s : Ring} {h : History} {L : ℕ → ℕ} {pc pt a r0 gap : ℕ} (v : 
 
   own-stored : {m j : ℕ} {p : PageNo} → LiesAt s m p j → m < s .counts .committed → valueAt s p j ≡ ownValue (h .readings) m
   own-stored {m} {j} {p} l lt =
-      stored-own (b .values) (p .0) j (l .page) (l .below) (rw (l .number) lt) ∙ ap (valueOf (h .readings)) (l .number) ∙ sym (own-at (b .ordered) m (lies-below v b l))
+      stored-own (b .values) (p .0) j (l .page) (l .below) (rw (l .number) lt) ∙ ap (valueOf (h .readings)) (l .number) ∙ sym (own-at (b .recorded .ordered) m (lies-below v b l))
 
   waits : {m j : ℕ} {p : PageNo} → LiesAt s m p j → (p ≡ s .places .reader → s .places .position ≤ j) → m < s .counts .committed → Waiting (runAt s h) m
   waits {m} {j} {p} l unread lt =
       record {
-        committed = committed-at (b .ordered) m (lies-below v b l) ∙ lt-ltb m (s .counts .committed) lt;
+        committed = committed-at (b .recorded .ordered) m (lies-below v b l) ∙ lt-ltb m (s .counts .committed) lt;
         slot = record {
           page = p;
           slot = j;
@@ -103,7 +103,7 @@ module _ {s : Ring} {h : History} {L : ℕ → ℕ} {pc pt a r0 gap : ℕ} (v : 
   opens : {m j : ℕ} {p : PageNo} → LiesAt s m p j → s .counts .committed ≤ m → NotCommitted (runAt s h) m
   opens {m} {j} {p} l le =
       record {
-        uncommitted = committed-at (b .ordered) m (lies-below v b l) ∙ le-ltb m (s .counts .committed) le;
+        uncommitted = committed-at (b .recorded .ordered) m (lies-below v b l) ∙ le-ltb m (s .counts .committed) le;
         slot = record { page = p; slot = j; has = l; alone = λ q k x. lies-once v b x l };
       }
 
@@ -122,16 +122,16 @@ module _ {s : Ring} {h : History} {L : ℕ → ℕ} {pc pt a r0 gap : ℕ} (v : 
       let notWaiting : ¬ Waiting (runAt s h) m = not-waiting (inl lt) (omega (arith, b .sums .read)) in
       let notOpen : ¬ NotCommitted (runAt s h) m = λ o. omega (arith, open-from o, read-committed) in
       ⊎-elim
-      (λ x. onlyFirst x (λ y. b .past .apart m x (lost-in (h .overwritings) m y)) notWaiting notOpen)
-      (λ x. onlySecond (λ y. b .past .apart m y x) (lost-out (h .overwritings) m x) notWaiting notOpen)
-      (b .past .covered m lt)
+      (λ x. onlyFirst x (λ y. b .recorded .past .apart m x (lost-in (h .overwritings) m y)) notWaiting notOpen)
+      (λ x. onlySecond (λ y. b .recorded .past .apart m y x) (lost-out (h .overwritings) m x) notWaiting notOpen)
+      (b .recorded .past .covered m lt)
 
   -- the numbers of the gap were overwritten
   placed-gap : (m : ℕ) → r0 + usedOf s (R s) ≤ m → m < r0 + usedOf s (R s) + gap → Placed s h m
   placed-gap m lo hi =
       onlySecond
       (λ x. omega (arith, handed-low x, b .sums .read))
-      (lost-out (h .overwritings) m (b .past .gone m lo hi))
+      (lost-out (h .overwritings) m (b .recorded .past .gone m lo hi))
       (not-waiting (inr lo) hi)
       (λ o. omega (arith, open-from o, gap-committed lo hi))
 

@@ -39,16 +39,16 @@ module _ {s : Ring} {h : History} {L : ℕ → ℕ} {pc pt a r0 gap : ℕ} (v : 
       every-each (sizeTests (s .size)) (
         le-leb leastPages (N s) (v .links .cycle .two),
         (
-          le-leb (N s) mostPages (b .sizes .pages),
-          (le-leb leastSlots (S s) (b .sizes .some), (le-leb (S s) mostSlots (b .sizes .slots), (le-leb (s .size .mode) stop (k .modeFits), tt))),
+          le-leb (N s) mostPages (b .contents .sizes .pages),
+          (le-leb leastSlots (S s) (b .contents .sizes .some), (le-leb (S s) mostSlots (b .contents .sizes .slots), (le-leb (s .size .mode) stop (k .modeFits), tt))),
         ),
       )
 
   index-fits : s .places .index ≤ S s
-  index-fits = omega (arith, b .sums .indexed, b .cap (C s) (commit-le v))
+  index-fits = omega (arith, b .sums .indexed, b .contents .cap (C s) (commit-le v))
 
   position-fits : s .places .position ≤ S s
-  position-fits = omega (arith, b .sums .read, b .cap (R s) (v .links .cycle .reader))
+  position-fits = omega (arith, b .sums .read, b .contents .cap (R s) (v .links .cycle .reader))
 
   places-fit : placesFit (s .places) (s .size) ≡ true
   places-fit =
@@ -80,7 +80,7 @@ module _ {s : Ring} {h : History} {L : ℕ → ℕ} {pc pt a r0 gap : ℕ} (v : 
   held-fits : (p : PageNo) (j u : ℕ) → Holding (s .numbers) (s .used) (S s) P pc pt (s .counts .committed) (h .readings) (p .0) j u → heldFits p j (s .size) ≡ true
   held-fits p j u o =
       let hp = placed-le v (o .k) (p .0) (o .is) in
-      every-each (heldTests p j (s .size)) (le-leb (p .0) (N s) hp, (lt-ltb j (S s) (omega (arith, o .slot, b .cap (p .0) hp)), tt))
+      every-each (heldTests p j (s .size)) (le-leb (p .0) (N s) hp, (lt-ltb j (S s) (omega (arith, o .slot, b .contents .cap (p .0) hp)), tt))
 
   record-fits : (ph : WriterPhase) (u : ℕ) → RecordOk (s .words) (s .used) (N s) (S s) P pc pt ph
       → HeldOk (s .numbers) (s .used) (S s) P pc pt (s .counts .committed) (h .readings) u ph → AimFits (N s) ph → writerFits ph (s .size) ≡ true
@@ -112,7 +112,7 @@ module _ {s : Ring} {h : History} {L : ℕ → ℕ} {pc pt a r0 gap : ℕ} (v : 
   all-words = allBelow-all (wordFitsAt (s .words) (N s)) (N s + 1) (λ p hp. word-fits p (omega arith))
 
   used-fit : usedFit (s .used) (N s) (S s) ≡ true
-  used-fit = allBelow-all (usedFitsAt (s .used) (S s)) (N s + 1) (λ p hp. le-leb (usedOf s p) (S s) (b .cap p (omega arith)))
+  used-fit = allBelow-all (usedFitsAt (s .used) (S s)) (N s + 1) (λ p hp. le-leb (usedOf s p) (S s) (b .contents .cap p (omega arith)))
 
   -- ---- counts
 

@@ -19,14 +19,14 @@ use Rattle.ring.proofs.accounts.Laws.{split-once}
 
 module _ {s : Ring} {h : History} {L : ℕ → ℕ} {pc pt a r0 gap : ℕ} (v : Control s L pc pt) (b : Accounts s h L pc pt a r0 gap) where
   pub lies-below : {m j : ℕ} {p : PageNo} → LiesAt s m p j → m < s .counts .taken
-  lies-below {j = j} {p = p} l = rw (l .number) at (b .numbers .below (p .0) j (l .page) (l .below))
+  lies-below {j = j} {p = p} l = rw (l .number) at (b .contents .numbers .below (p .0) j (l .page) (l .below))
 
   -- ---- the number in a slot
 
   pub reader-number : {m j : ℕ} {p : PageNo} → LiesAt s m p j → p .0 ≡ R s → (j < usedOf s (R s)) × (m ≡ r0 + j)
   reader-number {j = j} l e =
       let lt : j < usedOf s (R s) = rw e at (l .below) in
-      (lt, sym (l .number) ∙ ap (λ (q : ℕ). numberAt s (page q) j) e ∙ b .numbers .reader j lt)
+      (lt, sym (l .number) ∙ ap (λ (q : ℕ). numberAt s (page q) j) e ∙ b .contents .numbers .reader j lt)
 
   -- of a ring page
   ring-number : {m j : ℕ} {p : PageNo} → LiesAt s m p j → p .0 ≢ R s → (i : ℕ) × (L i ≡ p .0) × (m ≡ S s * (a + i) + j)
@@ -34,7 +34,7 @@ module _ {s : Ring} {h : History} {L : ℕ → ℕ} {pc pt a r0 gap : ℕ} (v : 
       let o = v .links .cycle .onto (p .0) (l .page) n in
       let lt : j < usedOf s (L (o .0)) = rw (o .2) (l .below) in
       let e : numberAt s (page (L (o .0))) j ≡ m = rw (o .2) (l .number) in
-      (o .0, o .2, omega (arith, b .numbers .slot (suc (o .0)) j (omega arith) (o .1) lt))
+      (o .0, o .2, omega (arith, b .contents .numbers .slot (suc (o .0)) j (omega arith) (o .1) lt))
 
   pub ring-from : {m j : ℕ} {p : PageNo} → LiesAt s m p j → p .0 ≢ R s → S s * a ≤ m
   ring-from l n = omega (arith, ring-number l n .2)
@@ -43,7 +43,7 @@ module _ {s : Ring} {h : History} {L : ℕ → ℕ} {pc pt a r0 gap : ℕ} (v : 
   pub ring-after : r0 + usedOf s (R s) + gap ≤ S s * a
   ring-after =
       by-eq pc 0
-      (λ e. omega (arith, b .sums .joined e, b .sums .readerFrom e, b .cap (R s) (v .links .cycle .reader)))
+      (λ e. omega (arith, b .sums .joined e, b .sums .readerFrom e, b .contents .cap (R s) (v .links .cycle .reader)))
       (λ n. omega (arith, b .sums .ringFrom (omega arith)))
 
   -- ---- in one slot only
@@ -53,7 +53,7 @@ module _ {s : Ring} {h : History} {L : ℕ → ℕ} {pc pt a r0 gap : ℕ} (v : 
   apart l o e n = omega (arith, reader-number l e, ring-from o n, ring-after)
 
   slot-low : {m j : ℕ} {p : PageNo} → LiesAt s m p j → j < S s
-  slot-low {p = p} l = omega (arith, b .cap (p .0) (l .page))
+  slot-low {p = p} l = omega (arith, b .contents .cap (p .0) (l .page))
 
   ring-once : {m j k : ℕ} {p q : PageNo} → LiesAt s m p j → LiesAt s m q k → p .0 ≢ R s → q .0 ≢ R s → (p ≡ q) × (j ≡ k)
   ring-once {j = j} {k = k} l o pr qr =
@@ -76,7 +76,7 @@ module _ {s : Ring} {h : History} {L : ℕ → ℕ} {pc pt a r0 gap : ℕ} (v : 
 
   pub in-reader : (m : ℕ) → r0 ≤ m → m < r0 + usedOf s (R s) → LiesAt s m (s .places .reader) (m - r0)
   in-reader m lo hi =
-      record { page = v .links .cycle .reader; below = omega arith; number = b .numbers .reader (m - r0) (omega arith) ∙ omega arith }
+      record { page = v .links .cycle .reader; below = omega arith; number = b .contents .numbers .reader (m - r0) (omega arith) ∙ omega arith }
 
   -- ---- a number of a ring page
 
@@ -102,7 +102,7 @@ module _ {s : Ring} {h : History} {L : ℕ → ℕ} {pc pt a r0 gap : ℕ} (v : 
       record {
         page = v .links .cycle .bound i;
         below = u;
-        number = omega (arith, b .numbers .slot (suc i) j (omega arith) (omega (arith, to-tail i j lt, v .order .top)) u);
+        number = omega (arith, b .contents .numbers .slot (suc i) j (omega arith) (omega (arith, to-tail i j lt, v .order .top)) u);
       }
 
   -- past the gap the ring's numbers start
@@ -117,11 +117,11 @@ module _ {s : Ring} {h : History} {L : ℕ → ℕ} {pc pt a r0 gap : ℕ} (v : 
   -- a number's page and slot are its quotient by S, less a, and its remainder
   split : (m : ℕ) → S s * a ≤ m → S s * (a + (m / S s - a)) + m % S s ≡ m
   split m le =
-      let from : a ≤ m / S s = le-div-iff-mul-le (b .sizes .some) .1 (omega arith) in
+      let from : a ≤ m / S s = le-div-iff-mul-le (b .contents .sizes .some) .1 (omega arith) in
       ap (λ (q : ℕ). S s * q + m % S s) (omega arith) ∙ div-add-mod m (S s)
 
   pub in-ring : (m : ℕ) → r0 + usedOf s (R s) + gap ≤ m → m < s .counts .taken → (p : PageNo) × (j : ℕ) × (p .0 ≢ R s) × LiesAt s m p j
   in-ring m lo hi =
       let e = split m (past-gap m lo hi) in
-      let l = in-page (m / S s - a) (m % S s) (mod-lt m (b .sizes .some)) (rw e hi) in
+      let l = in-page (m / S s - a) (m % S s) (mod-lt m (b .contents .sizes .some)) (rw e hi) in
       (page (L (m / S s - a)), m % S s, v .links .cycle .off (m / S s - a), rw e at l)

@@ -27,7 +27,7 @@ module _ {r : Run} (g : Invariant (r .now) (r .past)) where
   claim = demand (g .control) (g .accounts) (g .fates)
 
   complete-claim : CompleteClaim (receiptOf (r .now .counts)) r
-  complete-claim = complete (r .now) (r .past) (g .fates) (g .accounts .ordered) (g .accounts .balance) claim
+  complete-claim = complete (r .now) (r .past) (g .fates) (g .accounts .recorded .ordered) (g .accounts .balance) claim
 
   whole-claim : Whole r
   whole-claim =

@@ -161,18 +161,27 @@ pub record AtWork (marker : PageNo → Marker) (stack : List Writer) (depth : �
 
 -- ---- all of it
 
+-- what the slots hold
+pub record Contents (used inNumbers inValues : List ℕ) (N S R : ℕ) (P : ℕ → ℕ) (a r0 taken : ℕ) : Type 0 where
+  pub sizes : Sizes N S
+  pub rooms : Rooms inNumbers inValues
+  pub cap : (p : ℕ) → p ≤ N → getD used p 0 ≤ S
+  pub numbers : Numbers inNumbers used N S R P a r0 taken
+
+-- what the history says
+pub record Recorded (events : List Given) (overwritings : List Overwriting) (readings : List Numbered) (taken committed handed overwritten r0 position uR gap : ℕ) : Type 0 where
+  pub past : Past events (lostOf overwritings) readings handed overwritten r0 position uR gap
+  pub ordered : Ordered readings taken committed
+  pub rightly : All RightlyTaken overwritings
+
 pub record Accounts (s : Ring) (h : History) (L : ℕ → ℕ) (pc pt a r0 gap : ℕ) : Type 0 where
-  pub sizes : Sizes (N s) (S s)
-  pub rooms : Rooms (s .numbers) (s .values)
-  pub cap : (p : ℕ) → p ≤ N s → usedOf s p ≤ S s
-  pub numbers : Numbers (s .numbers) (s .used) (N s) (S s) (R s) (place (R s) L) a r0 (s .counts .taken)
+  pub contents : Contents (s .used) (s .numbers) (s .values) (N s) (S s) (R s) (place (R s) L) a r0 (s .counts .taken)
   pub sums : Sums (S s) (usedOf s (R s)) (usedOf s (T s)) (usedOf s (C s)) (s .places .index) (s .places .position) (s .counts .taken) (s .counts .committed)
       (s .counts .handed) (s .counts .overwritten) pc pt a r0 gap
   pub values : Values (s .numbers) (s .values) (s .used) (N s) (S s) (s .stack) (s .depth) (place (R s) L) pc pt (s .counts .committed) (h .readings)
   pub quiet : Quiet (s .reader .phase) (s .places .position) (usedOf s (R s))
-  pub past : Past (h .events) (lostOf (h .overwritings)) (h .readings) (s .counts .handed) (s .counts .overwritten) r0 (s .places .position) (usedOf s (R s)) gap
-  pub ordered : Ordered (h .readings) (s .counts .taken) (s .counts .committed)
+  pub recorded : Recorded (h .events) (h .overwritings) (h .readings) (s .counts .taken) (s .counts .committed) (s .counts .handed) (s .counts .overwritten) r0
+      (s .places .position) (usedOf s (R s)) gap
   pub work : AtWork (h .marker) (s .stack) (s .depth) (h .working)
   pub balance : s .counts .begun ≡ s .counts .taken + s .counts .dropped + earlies (s .stack) (s .depth)
-  pub rightly : All RightlyTaken (h .overwritings)
   pub stackRoom : length (s .stack) ≡ mostDepth

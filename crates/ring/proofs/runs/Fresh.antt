@@ -189,13 +189,15 @@ module _ (size : Size) (fits : sizeFits size ≡ true) where
       let uR = zeros pageRoom n in
       let uT = zeros pageRoom 0 in
       record {
-        sizes = record { pages = n16; some = s1; slots = s16 };
-        rooms = record { numbers-room = length-replicate {A = ℕ} slotRoom 0; values-room = length-replicate {A = ℕ} slotRoom 0 };
-        cap = λ p hp. omega (arith, zeros pageRoom p);
-        numbers = record {
-          slot = λ i j lo hi hj. unused (place n L i) j hj;
-          reader = λ j hj. unused n j hj;
-          below = λ p j hp hj. unused p j hj;
+        contents = record {
+          sizes = record { pages = n16; some = s1; slots = s16 };
+          rooms = record { numbers-room = length-replicate {A = ℕ} slotRoom 0; values-room = length-replicate {A = ℕ} slotRoom 0 };
+          cap = λ p hp. omega (arith, zeros pageRoom p);
+          numbers = record {
+            slot = λ i j lo hi hj. unused (place n L i) j hj;
+            reader = λ j hj. unused n j hj;
+            below = λ p j hp hj. unused p j hj;
+          };
         };
         sums = record {
           takenIs = omega arith;
@@ -210,11 +212,13 @@ module _ (size : Size) (fits : sizeFits size ≡ true) where
         };
         values = record { held = λ i hi. absurd (omega arith); stored = λ p j hp hj no. unused p j hj };
         quiet = tt;
-        past = nothing-past;
-        ordered = record { size = refl; nth = λ k hk. absurd (omega arith); committed-below = λ k hk. absurd (omega arith) };
+        recorded = record {
+          past = nothing-past;
+          ordered = record { size = refl; nth = λ k hk. absurd (omega arith); committed-below = λ k hk. absurd (omega arith) };
+          rightly = tt;
+        };
         work = record { many = refl; value = λ i hi. absurd (omega arith); marks = λ i p hi o. absurd (omega arith) };
         balance = refl;
-        rightly = tt;
         stackRoom = refl;
       }
 
