@@ -1,30 +1,24 @@
--- The fourth part of the invariant, bounds, holds of a fresh ring, and each step keeps it: a law for each change of what the bounds read, which is words, stack,
+-- The fourth part of the invariant, bounds, is kept by each step: a law for each change of what the bounds read, which is words, stack,
 -- numbers, begun and the reader page. What else a rule stores leaves them as they are.
 -- Assumes nothing.
 use mathlib.Core.Path.{_≡_, ap, subst}
 use mathlib.Core.Logic.{_≢_}
-use mathlib.Core.Bool.{true}
 use mathlib.Core.List.{List}
 use Prim.Native.Nat.{ℕ, suc, _+_, _*_, _≤_, _<_}
 use native.Mathlib.Omega.{arith}
-use borrow.Author.Tests.{leb-true}
 use lib.ListN.{length, getD, set}
 use lib.Seq.{getD-set-same, getD-set-other, set-out}
-use Rattle.ring.specs.Limits.{mostPages, pageRoom, slotRoom, mostCount, stop}
+use Rattle.ring.specs.Limits.{mostCount}
 use Rattle.ring.specs.State.{page, writer, noWriter, withWords, slotIndex, setPhase, pop}
-use Rattle.ring.specs.Shape.{sizeTests, sizeFits}
-use Rattle.ring.specs.SetUp.{freshWord, freshWords, freshRing}
 use Rattle.ring.specs.Begin.{begin}
 use Rattle.ring.specs.Write.{reserve, drop, commit}
 use Rattle.ring.specs.Read.{prepare, swap}
 use Rattle.ring.specs.declared.state.PageNo.{PageNo}
-use Rattle.ring.specs.declared.state.Size.{Size}
 use Rattle.ring.specs.declared.state.WriterPhase.{WriterPhase}
 use Rattle.ring.specs.declared.state.WriterPhase.the-variants as phase
 use Rattle.ring.specs.declared.state.Writer.{Writer}
 use Rattle.ring.specs.declared.state.Ring.{Ring}
-use Rattle.ring.proofs.Lists.{by-eq, by-lt, each, getD-tabulate, zeros}
-use Rattle.ring.proofs.setup.Laws.{freshNext-pages, freshFlag-most}
+use Rattle.ring.proofs.Lists.{by-eq, by-lt}
 use Rattle.ring.proofs.invariant.Order.{N, R, topAt, nextOf, rephase, Found, Ready, Links}
 use Rattle.ring.proofs.invariant.Control.{ReaderOk, Control}
 use Rattle.ring.proofs.invariant.Bounds.{AimFits, Bounds, BoundsOf}
@@ -136,24 +130,3 @@ module _ {s : Ring} {L : ℕ → ℕ} {pc pt : ℕ} (v : Control s L pc pt) (k :
       let new = getD-set-same (s .words) p (4 * R s + 0) 0 (omega (arith, v .links)) in
       rw (e, new) (omega (arith, v .links .cycle)))
       (λ n. rw (getD-set-other (s .words) p h (4 * R s + 0) 0 n) (ring-next (v .links) h (o .3) (o .4))))
-
--- ---- a fresh ring
-
--- the reader page's word
-fresh-next : (n : ℕ) → n ≤ mostPages → nextOf (freshWords n) n ≤ n
-unfolding freshWords
-fresh-next n h =
-    let next = freshNext-pages n n in
-    let flag = freshFlag-most n n in
-    rw (getD-tabulate (freshWord n) pageRoom n (omega arith)) (omega arith)
-
-pub bounds-fresh : (size : Size) → sizeFits size ≡ true → BoundsOf (freshRing size)
-bounds-fresh size fits =
-    let e = each (sizeTests size) fits in
-    record {
-      modeFits = leb-true (size .mode) stop (e .1 .1 .1 .1 .0);
-      begunFits = omega arith;
-      numbersFit = λ i. omega (arith, zeros slotRoom i);
-      readerFits = fresh-next (size .pages) (leb-true (size .pages) mostPages (e .1 .0));
-      aims = λ i hi. absurd (omega arith);
-    }

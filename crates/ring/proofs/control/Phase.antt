@@ -24,7 +24,7 @@ pub head-of : {words : List ℕ} {N : ℕ} {P : ℕ → ℕ} {tail pc : ℕ} {st
 head-of (headed h) p hp pr f = h
 head-of (headless o) p hp pr f = absurd (o .none p hp pr f)
 
--- the two states exclude each other
+-- where it can't be that there is no header mark, there is exactly one
 pub headed-unless : {words : List ℕ} {N : ℕ} {P : ℕ → ℕ} {tail pc : ℕ} {stack : List Writer} {depth : ℕ} → Flags words N P tail pc stack depth
     → ¬ Headless words N P tail pc stack depth → Headed words N P
 headed-unless (headed h) never = h

@@ -22,6 +22,8 @@ use Rattle.ring.specs.declared.state.Ring.{Ring}
 use Rattle.ring.proofs.invariant.Order.{N, S, R, T, C, usedOf, cell, phaseAt, storedAt, Held, place}
 use Rattle.ring.proofs.invariant.Control.{Owns}
 
+-- ---- sizes
+
 pub record Sizes (N S : ℕ) : Type 0 where
   pub pages : N ≤ mostPages
   pub some : 1 ≤ S
@@ -34,20 +36,25 @@ pub record Rooms (numbers values : List ℕ) : Type 0 where
 -- ---- numbers and counts
 
 pub record Numbers (numbers used : List ℕ) (N S R : ℕ) (P : ℕ → ℕ) (a r0 taken : ℕ) : Type 0 where
+  -- of a ring page, of the reader page, and of any
   pub slot : (i j : ℕ) → 1 ≤ i → i ≤ N → j < getD used (P i) 0 → getD numbers (cell S (P i) j) 0 + S ≡ S * (a + i) + j
   pub reader : (j : ℕ) → j < getD used R 0 → getD numbers (cell S R j) 0 ≡ r0 + j
   pub below : (p j : ℕ) → p ≤ N → j < getD used p 0 → getD numbers (cell S p j) 0 < taken
 
 -- uR, uT and uC are the used of the reader, tail and commit page
 pub record Sums (S uR uT uC index position taken committed handed overwritten pc pt a r0 gap : ℕ) : Type 0 where
+  -- taken and committed, by the formula of a slot's number, at the end of the tail page and at the commit position
   pub takenIs : taken + S ≡ S * (a + pt) + uT
   pub committedIs : committed + S ≡ S * (a + pc) + index
+  -- the commit index and the read position
   pub indexed : index ≤ uC
   pub read : position ≤ uR
   pub readCommitted : pc ≡ 0 → position ≤ index
+  -- while the commit page is the reader page, its numbers run on into the ring's; else the ring's start after the gap
   pub joined : pc ≡ 0 → gap ≡ 0
   pub readerFrom : pc ≡ 0 → r0 + S ≡ S * a
   pub ringFrom : 1 ≤ pc → r0 + uR + gap ≡ S * a
+  -- what was handed out or lost is what was read, and what came before it, and the gap
   pub total : handed + overwritten ≡ r0 + position + gap
 
 -- ---- readings by their numbers, which are their places in the list
@@ -137,14 +144,17 @@ givenValue events k = getD events k ungiven .value
 
 -- Each number below r0 + position was handed out or lost, not both; those of the gap were lost; no other number was either.
 pub record Past (events : List Given) (lost : List ℕ) (readings : List Numbered) (handed overwritten r0 position uR gap : ℕ) : Type 0 where
+  -- the Events: how many, up to where, in which order, with which values
   pub handedIs : length events ≡ handed
-  pub overwrittenIs : length lost ≡ overwritten
   pub given : (k : ℕ) → k < length events → givenNumber events k < r0 + position
   pub rising : (j k : ℕ) → j < k → k < length events → givenNumber events j < givenNumber events k
   pub own : (k : ℕ) → k < length events → givenValue events k ≡ valueOf readings (givenNumber events k)
+  -- the numbers lost: how many, up to where, in which order
+  pub overwrittenIs : length lost ≡ overwritten
   pub lostLow : (k : ℕ) → k < length lost → getD lost k 0 < r0 + uR + gap
   pub lostApart : (k : ℕ) → k < length lost → getD lost k 0 < r0 + position ⊎ r0 + uR ≤ getD lost k 0
   pub lostRising : (j k : ℕ) → j < k → k < length lost → getD lost j 0 < getD lost k 0
+  -- and which numbers are which
   pub covered : (m : ℕ) → m < r0 + position → GivenIn events m ⊎ Lost lost m
   pub gone : (m : ℕ) → r0 + uR ≤ m → m < r0 + uR + gap → Lost lost m
   pub apart : (m : ℕ) → GivenIn events m → Lost lost m → ⊥

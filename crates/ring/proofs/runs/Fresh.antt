@@ -9,19 +9,19 @@ use native.Mathlib.Omega.{arith}
 use native.Mathlib.Nat.{mod-lt, mod-eq-of-lt, mod-self, suc-mod, add-mod-right, zero-mod}
 use borrow.Author.Tests.{leb-true, lt-ltb, le-ltb, eq-eqb, ne-eqb}
 use lib.ListN.{length, getD, replicate, length-replicate}
-use Rattle.ring.specs.Limits.{leastPages, mostPages, leastSlots, mostSlots, pageRoom, slotRoom}
+use Rattle.ring.specs.Limits.{leastPages, mostPages, leastSlots, mostSlots, pageRoom, slotRoom, stop}
 use Rattle.ring.specs.Shape.{sizeTests, sizeFits}
 use Rattle.ring.specs.SetUp.{freshNext, freshFlag, freshWord, freshWords, freshRing}
 use Rattle.ring.specs.History.{nothing}
 use Rattle.ring.specs.declared.state.Size.{Size}
 use Rattle.ring.specs.declared.state.Ring.{Ring}
 use Rattle.ring.proofs.Lists.{by-eq, by-lt, each, length-tabulate, getD-tabulate, zeros}
-use Rattle.ring.proofs.setup.Laws.{freshFlag-most}
+use Rattle.ring.proofs.setup.Laws.{freshNext-pages, freshFlag-most}
 use Rattle.ring.proofs.invariant.Order.{nextOf, flagOf, Cycle, Links, place}
 use Rattle.ring.proofs.invariant.Control.{Headed, headed, Control}
 use Rattle.ring.proofs.invariant.Accounts.{Past, Accounts}
 use Rattle.ring.proofs.invariant.Fates.{FatesOf}
-use Rattle.ring.proofs.bounds.Steps.{bounds-fresh}
+use Rattle.ring.proofs.invariant.Bounds.{BoundsOf}
 use Rattle.ring.proofs.runs.Invariant.{Invariant, holds}
 
 -- ---- the words
@@ -240,5 +240,15 @@ module _ (size : Size) (fits : sizeFits size ≡ true) where
         fate = λ w h. absurd (omega arith);
       }
 
+  fresh-bounds : BoundsOf s
+  fresh-bounds =
+      record {
+        modeFits = leb-true (size .mode) stop (each (sizeTests size) fits .1 .1 .1 .1 .0);
+        begunFits = omega arith;
+        numbersFit = λ i. omega (arith, zeros slotRoom i);
+        readerFits = omega (arith, word-next n n2 n16 n (omega arith), freshNext-pages n n);
+        aims = λ i hi. absurd (omega arith);
+      }
+
   pub fresh-invariant : Invariant (freshRing size) nothing
-  fresh-invariant = holds L 1 1 0 0 0 fresh-control fresh-accounts fresh-fates (bounds-fresh size fits)
+  fresh-invariant = holds L 1 1 0 0 0 fresh-control fresh-accounts fresh-fates fresh-bounds
