@@ -15,6 +15,7 @@ use Rattle.ring.specs.declared.state.Ring.{Ring}
 use Rattle.ring.proofs.Lists.{by-eq}
 use Rattle.ring.proofs.invariant.Order.{N, R, phaseAt, place}
 use Rattle.ring.proofs.invariant.Control.{Owns, Above, headed, headless, RecordIn, FlagsIn, OwnersIn, Control}
+use Rattle.ring.proofs.control.Phase.{headless-records}
 use Rattle.ring.proofs.order.Records.{phase-same, phase-other}
 
 module _ {s : Ring} {L : ℕ → ℕ} {pc pt : ℕ} (v : Control s L pc pt) (b : ℕ) (room : s .depth < length (s .stack)) where
@@ -47,16 +48,9 @@ module _ {s : Ring} {L : ℕ → ℕ} {pc pt : ℕ} (v : Control s L pc pt) (b :
   flags-kept : FlagsIn s L pc → FlagsIn (begin b s .ring) L pc
   flags-kept (headed h) = headed h
   flags-kept (headless o) =
-      headless (record {
-        none = o .none;
-        last = o .last;
-        tailed = o .tailed;
-        ahead = o .ahead;
-        a = o .a;
-        below = omega (arith, o .below);
-        owner = old-at (o .a) (o .below) ∙ o .owner;
-        above = λ i lo hi. each-record (Above (place (R s) L (N s - 1)) (place (R s) L (N s))) tt i hi (o .above i lo);
-      })
+      headless (
+      headless-records o stack' (s .depth + 1) (omega (arith, o .below)) (old-at (o .a) (o .below))
+      (λ i lo hi. each-record (Above (place (R s) L (N s - 1)) (place (R s) L (N s))) tt i hi (o .above i lo)))
 
   owners-kept : OwnersIn (begin b s .ring)
   owners-kept =

@@ -8,19 +8,11 @@ use Rattle.ring.specs.declared.state.WriterPhase.the-variants as phase
 use Rattle.ring.specs.declared.state.Ring.{Ring}
 use Rattle.ring.proofs.invariant.Order.{Held}
 use Rattle.ring.proofs.invariant.Control.{Free, Above, Control}
-use Rattle.ring.proofs.control.Phase.{top-above, phase-control}
+use Rattle.ring.proofs.control.Phase.{top-above, unread-control, phase-control}
 
 pub filled-control : {s : Ring} {L : ℕ → ℕ} {pc pt : ℕ} → Control s L pc pt → 1 ≤ s .depth → (p j : ℕ) → top s .phase ≡ Held p j → Control (fill (page p) j s) L pc pt
 filled-control v deep p j ph =
     let free = subst Free (sym ph) (λ q o. o) in
-    let u = phase-control v deep phase.Filled free (λ q o. o) tt (λ o. absurd (subst (Above _ _) ph (top-above v deep free o))) in
-    record {
-      links = u .links;
-      order = u .order;
-      joined = u .joined;
-      flags = u .flags;
-      owners = u .owners;
-      depth = u .depth;
-      records = u .records;
-      reader = u .reader;
-    }
+    unread-control
+    (phase-control v deep phase.Filled free (λ q o. o) tt (λ o. absurd (subst (Above _ _) ph (top-above v deep free o))))
+    _ _ _

@@ -6,41 +6,17 @@ use Prim.Native.Nat.{ℕ, _≤_}
 use native.Mathlib.Omega.{arith}
 use Rattle.ring.specs.State.{withReaderPhase}
 use Rattle.ring.specs.Read.{handOut}
-use Rattle.ring.specs.declared.state.ReaderPhase.{ReaderPhase}
+use Rattle.ring.specs.declared.state.ReaderPhase.the-variants as reading
 use Rattle.ring.specs.declared.state.Ring.{Ring}
 use Rattle.ring.proofs.invariant.Order.{N, R, C, nextOf, flagOf, Found, place}
-use Rattle.ring.proofs.invariant.Control.{ReaderOk, Control}
-use Rattle.ring.proofs.control.Phase.{head-of}
+use Rattle.ring.proofs.invariant.Control.{Control}
+use Rattle.ring.proofs.control.Phase.{head-of, reader-control, unread-control}
 use Rattle.ring.proofs.order.Places.{last-next}
 
 module _ {s : Ring} {L : ℕ → ℕ} {pc pt : ℕ} (v : Control s L pc pt) where
-  -- another phase of the reader
-  pub reader-control : (ph : ReaderPhase) → ReaderOk (s .words) (N s) (R s) pc ph → Control (withReaderPhase ph s) L pc pt
-  reader-control ph ok =
-      record {
-        links = v .links;
-        order = v .order;
-        joined = v .joined;
-        flags = v .flags;
-        owners = v .owners;
-        depth = v .depth;
-        records = v .records;
-        reader = ok;
-      }
-
-  -- Event: no clause reads the read position or the counts
+  -- Event
   pub handed-control : Control (handOut s) L pc pt
-  handed-control =
-      record {
-        links = v .links;
-        order = v .order;
-        joined = v .joined;
-        flags = v .flags;
-        owners = v .owners;
-        depth = v .depth;
-        records = v .records;
-        reader = v .reader;
-      }
+  handed-control = unread-control v _ _ _
 
   -- Found: p has the header mark, so it is the newest page, and h the oldest
   pub found-control : C s ≢ R s → (p h : ℕ) → p ≤ N s → p ≢ R s → flagOf (s .words) p ≡ 1 → h ≡ nextOf (s .words) p → Control (withReaderPhase (Found p h) s) L pc pt
@@ -49,4 +25,8 @@ module _ {s : Ring} {L : ℕ → ℕ} {pc pt : ℕ} (v : Control s L pc pt) wher
       let newest = head-of (v .flags) p p≤N p≢R f .only p p≤N p≢R f in
       let oldest : h ≡ L 0 = next ∙ ap (nextOf (s .words)) newest ∙ last-next (v .links) in
       let ahead : pc ≢ 0 = λ z. apart (sym (v .order .commitAt) ∙ ap (place (R s) L) z) in
-      reader-control (Found p h) (omega arith, p≤N, p≢R, rw oldest (c .bound 0), λ q. c .off 0 (sym oldest ∙ q))
+      reader-control v _ _ _ (Found p h) (omega arith, p≤N, p≢R, rw oldest (c .bound 0), λ q. c .off 0 (sym oldest ∙ q))
+
+  -- Missed: an idle reader has no pages
+  pub missed-control : Control (withReaderPhase reading.Idle s) L pc pt
+  missed-control = reader-control v _ _ _ reading.Idle tt

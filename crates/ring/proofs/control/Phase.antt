@@ -1,4 +1,5 @@
--- What the top record's phase tells, where the tail, the commit and the newest page stand, and that control is kept where only this phase changes.
+-- What the top record's phase tells, where the tail, the commit and the newest page stand, and that control is kept where only this phase changes, or the reader's, or
+-- what control does not read.
 -- Assumes nothing.
 use mathlib.Core.Path.{_≡_, refl, sym, ap, _∙_, subst}
 use mathlib.Core.Logic.{_≢_, inr}
@@ -7,14 +8,16 @@ use mathlib.Core.List.{List}
 use Prim.Native.Nat.{ℕ, _-_, _≤_, _<_}
 use native.Mathlib.Omega.{arith}
 use lib.ListN.{length, set, length-set}
-use Rattle.ring.specs.State.{top, setPhase}
+use Rattle.ring.specs.State.{top, withCounts, withPosition, withReaderPhase, withValues, setPhase}
 use Rattle.ring.specs.declared.state.WriterPhase.{WriterPhase}
 use Rattle.ring.specs.declared.state.WriterPhase.the-variants as phase
 use Rattle.ring.specs.declared.state.Writer.{Writer}
+use Rattle.ring.specs.declared.state.Counts.{Counts}
+use Rattle.ring.specs.declared.state.ReaderPhase.{ReaderPhase}
 use Rattle.ring.specs.declared.state.Ring.{Ring}
 use Rattle.ring.proofs.Lists.{by-eq}
 use Rattle.ring.proofs.invariant.Order.{N, S, R, T, C, topAt, flagOf, phaseAt, rephase, Promote, place}
-use Rattle.ring.proofs.invariant.Control.{At, Owns, Free, Owners, Above, Headed, Headless, Flags, headed, headless, RecordIn, HeadedIn, HeadlessIn, FlagsIn, Control}
+use Rattle.ring.proofs.invariant.Control.{At, Owns, Free, Owners, Above, Headed, Headless, Flags, headed, headless, RecordIn, HeadedIn, HeadlessIn, FlagsIn, ReaderIn, Control}
 use Rattle.ring.proofs.order.Places.{place-le, place-off}
 use Rattle.ring.proofs.order.Records.{owner-at, phase-same, phase-other, records-set, owners-set}
 
@@ -35,6 +38,22 @@ pub marked-not-last : {words : List ℕ} {N : ℕ} {P : ℕ → ℕ} {tail pc : 
     → flagOf words t ≡ 2 → t ≢ P N
 marked-not-last {words} (headed h) t f q = omega (arith, ap (flagOf words) q, h .last)
 marked-not-last {words} (headless o) t f q = omega (arith, ap (flagOf words) q, o .last)
+
+-- other records: the owner still stands, and each one above it may
+pub headless-records : {words : List ℕ} {N : ℕ} {P : ℕ → ℕ} {tail pc : ℕ} {stack : List Writer} {depth : ℕ} (o : Headless words N P tail pc stack depth)
+    (stack' : List Writer) (depth' : ℕ) → o .a < depth' → phaseAt stack' (o .a) ≡ phaseAt stack (o .a)
+    → ((i : ℕ) → o .a < i → i < depth' → Above (P (N - 1)) (P N) (phaseAt stack' i)) → Headless words N P tail pc stack' depth'
+headless-records o stack' depth' below same above =
+    record {
+      none = o .none;
+      last = o .last;
+      tailed = o .tailed;
+      ahead = o .ahead;
+      a = o .a;
+      below = below;
+      owner = same ∙ o .owner;
+      above = above;
+    }
 
 module _ {s : Ring} {L : ℕ → ℕ} {pc pt : ℕ} (v : Control s L pc pt) where
   abbrev P : ℕ → ℕ
@@ -60,6 +79,25 @@ module _ {s : Ring} {L : ℕ → ℕ} {pc pt : ℕ} (v : Control s L pc pt) wher
 
   pub newest-off : P (N s) ≢ R s
   newest-off = place-off (v .links .cycle) (N s) (omega (arith, v .links .cycle .two))
+
+  -- another phase of the reader; no clause reads the counts, the read position or the values
+  pub reader-control : (counts : Counts) (position : ℕ) (values : List ℕ) (ph : ReaderPhase) → ReaderIn (withReaderPhase ph s) pc
+      → Control (withReaderPhase ph (withCounts counts (withPosition position (withValues values s)))) L pc pt
+  reader-control counts position values ph ok =
+      record {
+        links = v .links;
+        order = v .order;
+        joined = v .joined;
+        flags = v .flags;
+        owners = v .owners;
+        depth = v .depth;
+        records = v .records;
+        reader = ok;
+      }
+
+  -- the same phase of the reader
+  pub unread-control : (counts : Counts) (position : ℕ) (values : List ℕ) → Control (withCounts counts (withPosition position (withValues values s))) L pc pt
+  unread-control counts position values = reader-control counts position values (s .reader .phase) (v .reader)
 
   module _ (deep : 1 ≤ s .depth) where
     pub top-below : topAt s < length (s .stack)
@@ -89,19 +127,13 @@ module _ {s : Ring} {L : ℕ → ℕ} {pc pt : ℕ} (v : Control s L pc pt) wher
         → Flags (s .words) (N s) P (T s) pc (set (s .stack) (topAt s) w) (s .depth)
     flags-set w free fit (headed h) = headed h
     flags-set w free fit (headless o) =
-        headless (record {
-          none = o .none;
-          last = o .last;
-          tailed = o .tailed;
-          ahead = o .ahead;
-          a = o .a;
-          below = o .below;
-          owner = rw (phase-other (s .stack) (topAt s) (o .a) w (omega (arith, not-owner free o))) (o .owner);
-          above = λ i lo hi.
-              by-eq i (topAt s)
-              (λ q. rw (q, phase-same (s .stack) (topAt s) w top-below) (fit o))
-              (λ n. rw (phase-other (s .stack) (topAt s) i w n) (o .above i lo hi));
-        })
+        headless (
+        headless-records o (set (s .stack) (topAt s) w) (s .depth) (o .below)
+        (phase-other (s .stack) (topAt s) (o .a) w (omega (arith, not-owner free o)))
+        (λ i lo hi.
+        by-eq i (topAt s)
+        (λ q. rw (q, phase-same (s .stack) (topAt s) w top-below) (fit o))
+        (λ n. rw (phase-other (s .stack) (topAt s) i w n) (o .above i lo hi))))
 
     -- one that owns no mark becomes another that owns none
     pub owners-free : (w : Writer) → Free (top s .phase) → Free (w .phase) → Owners (s .words) (N s) (set (s .stack) (topAt s) w) (s .depth)

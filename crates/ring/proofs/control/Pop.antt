@@ -1,6 +1,6 @@
 -- A popped record that owns no mark keeps control: Pending, Dropped, and Committed, which moves the commit page to the tail page.
 -- Assumes nothing.
-use mathlib.Core.Path.{_≡_, refl, sym, _∙_, subst}
+use mathlib.Core.Path.{_≡_, refl, sym, subst}
 use mathlib.Core.Logic.{_≢_}
 use mathlib.Core.List.{List}
 use Prim.Native.Nat.{ℕ, _≤_, _<_}
@@ -14,7 +14,7 @@ use Rattle.ring.specs.declared.state.Writer.{Writer}
 use Rattle.ring.specs.declared.state.Ring.{Ring}
 use Rattle.ring.proofs.invariant.Order.{N, R, T, topAt, phaseAt, place}
 use Rattle.ring.proofs.invariant.Control.{Owns, Free, Owners, Above, Flags, headed, headless, FlagsIn, Control}
-use Rattle.ring.proofs.control.Phase.{not-owner, headed-by}
+use Rattle.ring.proofs.control.Phase.{headless-records, unread-control, not-owner, headed-by}
 use Rattle.ring.proofs.order.Records.{phase-other, reader-map}
 
 module _ {s : Ring} {L : ℕ → ℕ} {pc pt : ℕ} (v : Control s L pc pt) (deep : 1 ≤ s .depth) where
@@ -29,16 +29,7 @@ module _ {s : Ring} {L : ℕ → ℕ} {pc pt : ℕ} (v : Control s L pc pt) (dee
   flags-kept free (headed h) = headed h
   flags-kept free (headless o) =
       let below = not-owner v deep free o in
-      headless (record {
-        none = o .none;
-        last = o .last;
-        tailed = o .tailed;
-        ahead = o .ahead;
-        a = o .a;
-        below = below;
-        owner = below-top (o .a) below ∙ o .owner;
-        above = λ i lo hi. rw (below-top i hi) (o .above i lo (omega arith));
-      })
+      headless (headless-records o stack' (topAt s) below (below-top (o .a) below) (λ i lo hi. rw (below-top i hi) (o .above i lo (omega arith))))
 
   owners-kept : Free (top s .phase) → Owners (s .words) (N s) stack' (topAt s)
   owners-kept free =
@@ -69,20 +60,8 @@ module _ {s : Ring} {L : ℕ → ℕ} {pc pt : ℕ} (v : Control s L pc pt) (dee
   pub pending-control : top s .phase ≡ phase.Filled → Control (pop s) L pc pt
   pending-control ph = popped-control (subst Free (sym ph) (λ p o. o))
 
-  -- control does not read the count of drops
   pub dropped-control : top s .phase ≡ phase.Want → Control (drop s) L pc pt
-  dropped-control ph =
-      let u = popped-control (subst Free (sym ph) (λ p o. o)) in
-      record {
-        links = u .links;
-        order = u .order;
-        joined = u .joined;
-        flags = u .flags;
-        owners = u .owners;
-        depth = u .depth;
-        records = u .records;
-        reader = u .reader;
-      }
+  dropped-control ph = unread-control (popped-control (subst Free (sym ph) (λ p o. o))) _ _ _
 
   -- the only record goes: no record is left, and there is a header mark
   pub committed-control : top s .phase ≡ phase.Filled → s .depth ≡ 1 → Control (commit s) L pt pt

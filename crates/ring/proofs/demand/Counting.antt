@@ -100,18 +100,18 @@ from-count c (suc n) =
 -- ---- four properties, one of which each number has
 
 pub record Parts (A B C D : ℕ → Type 0) (n : ℕ) : Type 0 where
-  pub a : ℕ
-  pub b : ℕ
-  pub c : ℕ
-  pub d : ℕ
-  pub ofA : Count A n a
-  pub ofB : Count B n b
-  pub ofC : Count C n c
-  pub ofD : Count D n d
-  pub sum : a + b + c + d ≡ n
+  pub first : ℕ
+  pub second : ℕ
+  pub third : ℕ
+  pub fourth : ℕ
+  pub ofA : Count A n first
+  pub ofB : Count B n second
+  pub ofC : Count C n third
+  pub ofD : Count D n fourth
+  pub sum : first + second + third + fourth ≡ n
 
 part : {A B C D : ℕ → Type 0} {n a b c d : ℕ} → Count A n a → Count B n b → Count C n c → Count D n d → a + b + c + d ≡ n → Parts A B C D n
-part {a = a} {b = b} {c = c} {d = d} x y z w sum = record { a = a; b = b; c = c; d = d; ofA = x; ofB = y; ofC = z; ofD = w; sum = sum }
+part {a = a} {b = b} {c = c} {d = d} x y z w sum = record { first = a; second = b; third = c; fourth = d; ofA = x; ofB = y; ofC = z; ofD = w; sum = sum }
 
 part-more : {A B C D : ℕ → Type 0} {n : ℕ} → Parts A B C D n → ExactlyOne (A n) (B n) (C n) (D n) → Parts A B C D (suc n)
 part-more k (onlyFirst p q r s) = part (counted (k .ofA) p) (skipped (k .ofB) q) (skipped (k .ofC) r) (skipped (k .ofD) s) (omega arith)

@@ -64,11 +64,11 @@ module _ {s : Ring} {h : History} {L : ℕ → ℕ} {pc pt a r0 gap : ℕ} (v : 
   abbrev four : Parts (HandedOut (runAt s h)) (Overwritten (runAt s h)) (Waiting (runAt s h)) (NotCommitted (runAt s h)) (s .counts .taken)
   four = parts (s .counts .taken) (one-place v b)
 
-  four-sum : s .counts .taken ≡ s .counts .handed + s .counts .overwritten + four .c + uncommitted (s .counts)
+  four-sum : s .counts .taken ≡ s .counts .handed + s .counts .overwritten + four .third + uncommitted (s .counts)
   four-sum =
       omega (arith, four .sum, count-once (four .ofA) handed-count, count-once (four .ofB) overwritten-count, count-once (four .ofD) open-count)
 
-  waiting-is : four .c ≡ waiting (s .counts)
+  waiting-is : four .third ≡ waiting (s .counts)
   waiting-is = omega (arith, four-sum, committed-taken v b)
 
   pub waiting-count : Count (Waiting (runAt s h)) (s .counts .taken) (waiting (s .counts))

@@ -28,7 +28,7 @@ use Rattle.ring.proofs.accounts.Event.{event-accounts}
 use Rattle.ring.proofs.accounts.Phase.{words-accounts, reader-accounts}
 use Rattle.ring.proofs.accounts.Swap.{swapped-accounts}
 use Rattle.ring.proofs.bounds.Steps.{bounds-prepare, bounds-swap}
-use Rattle.ring.proofs.control.Find.{reader-control, handed-control, found-control}
+use Rattle.ring.proofs.control.Find.{handed-control, found-control, missed-control}
 use Rattle.ring.proofs.control.Prepare.{prepared-control}
 use Rattle.ring.proofs.control.Swap.{swapped-control}
 use Rattle.ring.proofs.order.Search.{Tells, search-tells}
@@ -115,7 +115,7 @@ module _ (x : ℕ) (s : Ring) (h : History) (g : Invariant s h) where
       (swapped-accounts v b p h0 q hw)
       (g .fates)
       (bounds-swap v (g .bounds) p h0 q))
-      (λ k. holds-same g (reader-control v reading.Idle tt) (reader-accounts b reading.Idle tt) (g .fates) (g .bounds))
+      (λ k. holds-same g (missed-control v) (reader-accounts b reading.Idle tt) (g .fates) (g .bounds))
 
   -- ---- by the reader's phase
 
