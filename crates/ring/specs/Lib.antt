@@ -9,8 +9,8 @@ pub mod Shape
 pub mod SetUp
 pub mod Begin
 pub mod Write
-pub mod Pieces
 pub mod Read
+pub mod Pieces
 pub mod Receipt
 pub mod Act
 pub mod Remember

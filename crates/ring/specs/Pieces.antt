@@ -1,29 +1,38 @@
--- What a Write leaves in each piece of the ring, by the move that was decided: for code that stores a piece at a time. A piece is what the rule of
--- specs/Write leaves of it on a ring that has the pieces given and is blank elsewhere. The cells of the arrays alone are listed again, since a
--- store names a place (`storesAfter`). That all of these together are the rule on the whole ring is `moved-pieces` (proofs/pieces/Laws).
+-- What an action leaves in each piece of the ring, by what was decided: for code that stores a piece at a time. A piece is what the rule of
+-- specs/Write or specs/Read leaves of it on a ring that has the pieces given and is blank elsewhere. The cells of the arrays alone are listed again,
+-- since a store names a place (`storesAfter`, `readStores`). That all of these together are the rule on the whole ring is `moved-pieces` and
+-- `fetched-pieces` (proofs/pieces/Laws).
 -- Assumes nothing.
+use mathlib.Core.Path.{_≡_}
 use mathlib.Core.List.{List}
 use Prim.Native.Nat.{ℕ, _+_, _≤_, _<_}
 use lib.ListN.{set}
-use Rattle.ring.specs.Limits.{mostPages, mostSlots, normal, header, update}
-use Rattle.ring.specs.State.{reading, sizeOf, writer, withPlaces, withCounts, withDepth, withWords, withUsed, withNumbers, withValues, withTaken, wordAt, slotIndex, recordAt, setRecord, blank}
+use Rattle.ring.specs.Limits.{mostPages, mostSlots, slotRoom, normal, header, update}
+use Rattle.ring.specs.State.{reading, sizeOf, writer, withPlaces, withCounts, withDepth, withReader, withWords, withUsed, withNumbers, withValues, withTaken, withHanded, wordAt, slotIndex, recordAt, setRecord, blank}
 use Rattle.ring.specs.Words.{pageIn, wordOf}
 use Rattle.ring.specs.Write.{moved}
+use Rattle.ring.specs.Read.{fetched}
+use Rattle.ring.specs.declared.state.PageNo.{PageNo}
 use Rattle.ring.specs.declared.state.Size.{Size}
 use Rattle.ring.specs.declared.state.Places.{Places}
 use Rattle.ring.specs.declared.state.Counts.{Counts}
 use Rattle.ring.specs.declared.state.WriterPhase.the-variants.{Want}
 use Rattle.ring.specs.declared.state.Writer.{Writer}
+use Rattle.ring.specs.declared.state.Reader.{Reader}
 use Rattle.ring.specs.declared.state.Answer.{Answer}
 use Rattle.ring.specs.declared.state.Ring.{Ring}
 use Rattle.ring.specs.declared.moves.Move.{Move}
 use Rattle.ring.specs.declared.moves.Move.the-variants.{Become, Reserve, Drop, Mark, Promote, Clear, Push, Fill, Pend, Commit}
+use Rattle.ring.specs.declared.moves.Fetch.{Fetch}
+use Rattle.ring.specs.declared.moves.Fetch.the-variants as fetch
 use Rattle.ring.specs.declared.moves.Stores.{Stores}
 use Rattle.ring.specs.declared.moves.Stores.the-variants as stores
 
 -- a ring of zeros; no piece below depends on its size
 abbrev pub empty : Ring
 empty = blank (sizeOf 0 0 0)
+
+-- ---- Write
 
 abbrev pub answerAfter : Move → ℕ → Answer
 answerAfter m taken = moved m (withTaken taken empty) .answer
@@ -54,6 +63,34 @@ storesAfter (Fill p slot) size taken value words = stores.Value (slotIndex size 
 storesAfter Pend size taken value words = stores.Same
 storesAfter Commit size taken value words = stores.Same
 
+-- ---- Read
+
+-- the slot that an Event tells is named by the size and the places
+abbrev pub readAnswer : Fetch → Size → Places → List ℕ → List ℕ → Answer
+readAnswer f size places numbers values =
+    fetched f (withPlaces places (withNumbers numbers (withValues values (blank size)))) .answer
+
+abbrev pub readHanded : Fetch → ℕ → ℕ
+readHanded f handed = fetched f (withHanded handed empty) .ring .counts .handed
+
+abbrev pub readPlaces : Fetch → Places → Places
+readPlaces f places = fetched f (withPlaces places empty) .ring .places
+
+abbrev pub readPhase : Fetch → Reader → Reader
+readPhase f reader = fetched f (withReader reader empty) .ring .reader
+
+-- the cells that the rule stores to; `reader` is the reader page
+abbrev pub readStores : Fetch → PageNo → List ℕ → Stores
+readStores fetch.Event reader words = stores.Same
+readStores fetch.Empty reader words = stores.Same
+readStores fetch.Busy reader words = stores.Same
+readStores (fetch.Find p h) reader words = stores.Same
+readStores (fetch.Prepare p h) reader words = stores.Word reader (wordOf (pageIn (wordAt words h)) header)
+readStores (fetch.Swap p h) reader words = stores.Take p (wordOf reader normal) reader
+readStores fetch.Miss reader words = stores.Same
+
+-- ---- the cells stored to, and what the code asks of what is decided
+
 abbrev pub stored : Stores → Ring → Ring
 stored stores.Same r = r
 stored (stores.Number at number t k) r =
@@ -74,3 +111,17 @@ MoveFits (Push n) = n .0 ≤ mostPages
 MoveFits (Fill p slot) = (p .0 ≤ mostPages) × (slot < mostSlots)
 MoveFits Pend = Unit {0}
 MoveFits Commit = Unit {0}
+
+-- the pages that a Read names, in the same way
+abbrev pub FetchFits : Fetch → Type 0
+FetchFits fetch.Event = Unit {0}
+FetchFits fetch.Empty = Unit {0}
+FetchFits fetch.Busy = Unit {0}
+FetchFits (fetch.Find p h) = Unit {0}
+FetchFits (fetch.Prepare p h) = h .0 ≤ mostPages
+FetchFits (fetch.Swap p h) = p .0 ≤ mostPages
+FetchFits fetch.Miss = Unit {0}
+
+-- the slot that an Event tells is one that the ring has room for
+abbrev pub EventFits : Fetch → Size → Places → Type 0
+EventFits f size places = f ≡ fetch.Event → slotIndex size (places .reader) (places .position) < slotRoom

@@ -10,6 +10,9 @@ pub mod setup; // fresh and plain
 pub mod begin; // Begin
 pub mod pieces; // what a Write leaves in each piece
 pub mod write; // Write
+pub mod read; // Read
+pub mod receipt; // the receipt
+pub mod act; // any of the three
 
 // what a caller names
 pub use state::Action;

@@ -1,17 +1,21 @@
-// What a Write leaves in each piece of the ring, once it is decided which rule applies.
+// What an action leaves in each piece of the ring, once it is decided which rule applies: a Write, and then a Read.
 ghost use mathlib.Core.Path.{_≡_};
 ghost use Prim.Native.Nat.{_≤_};
-ghost use Rattle.ring.specs.Limits.{mostPages, mostCount};
-ghost use Rattle.ring.specs.Pieces.{answerAfter, recordAfter, countsAfter, placesAfter, depthAfter, storesAfter, MoveFits};
+ghost use Rattle.ring.specs.Limits.{mostPages, mostSlots, mostCount};
+ghost use Rattle.ring.specs.Pieces.{answerAfter, recordAfter, countsAfter, placesAfter, depthAfter, storesAfter, MoveFits, readAnswer, readHanded, readPlaces, readPhase, readStores, FetchFits, EventFits};
 use crate::cells::slot_index;
 use crate::cells::used_at;
 use crate::cells::wanting;
 use crate::cells::word_at;
+use crate::moves::Fetch;
 use crate::moves::Move;
 use crate::moves::Stores;
 use crate::state::Answer;
 use crate::state::Counts;
+use crate::state::PageNo;
 use crate::state::Places;
+use crate::state::Reader;
+use crate::state::ReaderPhase;
 use crate::state::ReadingNo;
 use crate::state::Ring;
 use crate::state::Size;
@@ -136,6 +140,96 @@ pub(crate) fn stores_after(m: Move, size: Size, taken: u64, value: u32, words: &
         Move::Fill(p, slot) => {
             let at = slot_index(size, p, slot);
             Stores::Value(at, value)
+        }
+        _ => Stores::Same,
+    }
+}
+
+// ---- Read
+
+// The answer. An Event tells the slot at the read position of the reader page.
+pub(crate) fn read_answer<'a>(
+    f: Fetch,
+    size: Size,
+    places: Places,
+    numbers: &'a [u32; 272],
+    values: &'a [u32; 272],
+) -> Answer
+    requires { ⌜ EventFits f size places ⌝ }
+    ensures { λ r. ⌜ r ≡ readAnswer f size places (now (numbers .entry)) (now (values .entry)) ⌝ }
+{
+    match f {
+        Fetch::Event => {
+            let at = slot_index(size, places.reader, places.position);
+            let number = numbers[at];
+            Answer::Event(ReadingNo(number), values[at])
+        }
+        Fetch::Empty => Answer::Empty,
+        Fetch::Busy => Answer::Busy,
+        Fetch::Find(_, _) => Answer::Found,
+        Fetch::Prepare(_, _) => Answer::Prepared,
+        Fetch::Swap(_, _) => Answer::Swapped,
+        Fetch::Miss => Answer::Missed,
+    }
+}
+
+// A sum past its limit is kept, and 64 bits hold it.
+pub(crate) fn read_handed(f: Fetch, handed: u64) -> u64
+    requires { ⌜ handed ≤ mostCount ⌝ }
+    ensures { λ r. ⌜ r ≡ readHanded f handed ⌝ }
+{
+    match f {
+        Fetch::Event => handed + 1,
+        _ => handed,
+    }
+}
+
+// An Event moves the read position; a swap makes h the reader page, to be read from its start.
+pub(crate) fn read_places(f: Fetch, places: Places) -> Places
+    requires { ⌜ places .position ≤ mostSlots ⌝ }
+    ensures { λ r. ⌜ r ≡ readPlaces f places ⌝ }
+{
+    let mut next = places;
+    match f {
+        Fetch::Event => next.position = places.position + 1,
+        Fetch::Swap(_, h) => {
+            next.reader = h;
+            next.position = 0;
+        }
+        _ => (),
+    }
+    next
+}
+
+// The reader's next phase.
+pub(crate) fn read_phase(f: Fetch, reader: Reader) -> Reader
+    ensures { λ r. ⌜ r ≡ readPhase f reader ⌝ }
+{
+    let phase = match f {
+        Fetch::Find(p, h) => ReaderPhase::Found(p, h),
+        Fetch::Prepare(p, h) => ReaderPhase::Ready(p, h),
+        Fetch::Swap(_, _) | Fetch::Miss => ReaderPhase::Idle,
+        _ => {
+            return reader;
+        }
+    };
+    Reader { phase }
+}
+
+// The cells that the rule stores to; `page` is the reader page. A swap empties it: it goes back into the ring.
+pub(crate) fn read_stores(f: Fetch, page: PageNo, words: &[u32; 17]) -> Stores
+    requires { ⌜ FetchFits f × (page .0 ≤ mostPages) ⌝ }
+    ensures { λ r. ⌜ r ≡ readStores f page (now (words .entry)) ⌝ }
+{
+    match f {
+        Fetch::Prepare(_, h) => {
+            let next = page_in(word_at(words, h));
+            let word = word_of(next, Ring::HEADER) as u32;
+            Stores::Word(page, word)
+        }
+        Fetch::Swap(p, _) => {
+            let word = word_of(page, Ring::NORMAL) as u32;
+            Stores::Take(p, word, page)
         }
         _ => Stores::Same,
     }

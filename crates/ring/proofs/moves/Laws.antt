@@ -1,5 +1,5 @@
--- A verdict is not both of its kinds. And what holds in an arm of a match on a move that is for several variants, as `_ => ..`: there the move is known by the
--- numbers of these variants, and a fact of each of them is a fact of the move.
+-- A verdict is not both of its kinds. And what holds in an arm of a match on a Move or a Fetch that is for several variants, as `_ => ..`: there it is known by the
+-- numbers of these variants, and a fact of each of them is a fact of it.
 -- Assumes nothing.
 use mathlib.Core.Path.{_≡_}
 use mathlib.Core.Logic.{inl, inr}
@@ -16,15 +16,31 @@ use Rattle.ring.specs.declared.state.Refusal.{Refusal}
 use Rattle.ring.specs.declared.moves.Verdict.the-variants.{Allowed, Refused}
 use Rattle.ring.specs.declared.moves.Move.{Move}
 use Rattle.ring.specs.declared.moves.Move.the-variants.{Become, Reserve, Drop, Mark, Promote, Clear, Push, Fill, Pend, Commit}
-use Rattle.ring.proofs.moves.Move.{the-type}
+use Rattle.ring.specs.declared.moves.Fetch.{Fetch}
+use Rattle.ring.specs.declared.moves.Fetch.the-variants as fetch
+use Rattle.ring.proofs.moves.Move as move-type
+use Rattle.ring.proofs.moves.Fetch as fetch-type
 
 pub refused-is-not-allowed : (why : Refusal) → Refused why ≡ Allowed → ⊥
 refused-is-not-allowed why h = let z : _≡_ {A = ℕ} 0 1 = cc in omega arith
 
+-- ---- variants known by their numbers
+
+-- what holds of the variant with each number of a list
+abbrev Ats : (ℕ → Type 0) → List ℕ → Type 0
+Ats At [] = Unit {0}
+Ats At (k ∷ ks) = At k × Ats At ks
+
+of-one : {A : Type 0} (P : A → Type 0) (At : ℕ → Type 0) (tag : A → ℕ) → ((x : A) → At (tag x) → P x) → (ks : List ℕ) (x : A) → Ats At ks → OneOf ks (tag x) → P x
+of-one P At tag of-number [] x hs o = absurd o
+of-one P At tag of-number (k ∷ []) x hs o = of-number x (rw o (hs .0))
+of-one P At tag of-number (k ∷ l ∷ ks) x hs (inl o) = of-number x (rw o (hs .0))
+of-one P At tag of-number (k ∷ l ∷ ks) x hs (inr o) = of-one P At tag of-number (l ∷ ks) x (hs .1) o
+
 module _ (P : Move → Type 0) where
   -- P of the variant with this number, whatever it holds; they are numbered from 0 in the order of moves.rt
-  abbrev At : ℕ → Type 0
-  At k =
+  abbrev MoveAt : ℕ → Type 0
+  MoveAt k =
       getD
       (((next : WriterPhase) (a : Answer) → P (Become next a))
       ∷ ((t : PageNo) (slot : ℕ) → P (Reserve t slot))
@@ -40,24 +56,44 @@ module _ (P : Move → Type 0) where
       k
       (Unit {0})
 
-  abbrev Ats : List ℕ → Type 0
-  Ats [] = Unit {0}
-  Ats (k ∷ ks) = At k × Ats ks
+  of-move : (m : Move) → MoveAt (tagOf move-type.the-type m) → P m
+  of-move (Become next a) h = h next a
+  of-move (Reserve t slot) h = h t slot
+  of-move Drop h = h
+  of-move (Mark t n) h = h t n
+  of-move (Promote n next) h = h n next
+  of-move (Clear t n) h = h t n
+  of-move (Push n) h = h n
+  of-move (Fill p slot) h = h p slot
+  of-move Pend h = h
+  of-move Commit h = h
 
-  of-number : (m : Move) → At (tagOf the-type m) → P m
-  of-number (Become next a) h = h next a
-  of-number (Reserve t slot) h = h t slot
-  of-number Drop h = h
-  of-number (Mark t n) h = h t n
-  of-number (Promote n next) h = h n next
-  of-number (Clear t n) h = h t n
-  of-number (Push n) h = h n
-  of-number (Fill p slot) h = h p slot
-  of-number Pend h = h
-  of-number Commit h = h
+  pub of-numbers : (ks : List ℕ) (m : Move) → Ats MoveAt ks → OneOf ks (tagOf move-type.the-type m) → P m
+  of-numbers = of-one P MoveAt (tagOf move-type.the-type) of-move
 
-  pub of-numbers : (ks : List ℕ) (m : Move) → Ats ks → OneOf ks (tagOf the-type m) → P m
-  of-numbers [] m hs o = absurd o
-  of-numbers (k ∷ []) m hs o = of-number m (rw o (hs .0))
-  of-numbers (k ∷ l ∷ ks) m hs (inl o) = of-number m (rw o (hs .0))
-  of-numbers (k ∷ l ∷ ks) m hs (inr o) = of-numbers (l ∷ ks) m (hs .1) o
+module _ (P : Fetch → Type 0) where
+  abbrev FetchAt : ℕ → Type 0
+  FetchAt k =
+      getD
+      (P fetch.Event
+      ∷ P fetch.Empty
+      ∷ P fetch.Busy
+      ∷ ((p h : PageNo) → P (fetch.Find p h))
+      ∷ ((p h : PageNo) → P (fetch.Prepare p h))
+      ∷ ((p h : PageNo) → P (fetch.Swap p h))
+      ∷ P fetch.Miss
+      ∷ [])
+      k
+      (Unit {0})
+
+  of-fetch : (f : Fetch) → FetchAt (tagOf fetch-type.the-type f) → P f
+  of-fetch fetch.Event q = q
+  of-fetch fetch.Empty q = q
+  of-fetch fetch.Busy q = q
+  of-fetch (fetch.Find p h) q = q p h
+  of-fetch (fetch.Prepare p h) q = q p h
+  of-fetch (fetch.Swap p h) q = q p h
+  of-fetch fetch.Miss q = q
+
+  pub fetch-of-numbers : (ks : List ℕ) (f : Fetch) → Ats FetchAt ks → OneOf ks (tagOf fetch-type.the-type f) → P f
+  fetch-of-numbers = of-one P FetchAt (tagOf fetch-type.the-type) of-fetch

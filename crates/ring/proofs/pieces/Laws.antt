@@ -1,28 +1,49 @@
--- The pieces that a move leaves are together what its rule leaves of the whole ring, and the cells that it stores to are within the arrays.
+-- The pieces that a Write or a Read leaves are together what its rule leaves of the whole ring, and the cells that it stores to are within the arrays.
 -- Assumes nothing.
 use mathlib.Core.Path.{_≡_, refl}
-use mathlib.Core.List.{List}
+use mathlib.Core.Bool.{true}
+use mathlib.Core.Logic.{inl, inr}
+use mathlib.Core.List.{List, [], _∷_}
 use Prim.Native.Nat.{ℕ, _-_, _≤_, _<_}
+use native.Mathlib.Omega.{arith}
+use types.Run.{OneOf}
+use denote.Enum.Declared.{tagOf}
 use borrow.Author.Tests.{ne-eqb}
 use lib.ListN.{set}
 use Rattle.ring.specs.Limits.{mostPages, mostSlots, slotRoom}
-use Rattle.ring.specs.State.{withStack, withCounts, withPlaces, withDepth, top}
+use Rattle.ring.specs.State.{withStack, withCounts, withPlaces, withDepth, withReader, withHanded, top}
 use Rattle.ring.specs.Shape.{inShape}
 use Rattle.ring.specs.Answers.{Outcome, gives}
 use Rattle.ring.specs.Write.{moved, planWrite, writeRule}
-use Rattle.ring.specs.Pieces.{answerAfter, countsAfter, placesAfter, depthAfter, recordAfter, storesAfter, stored, MoveFits}
+use Rattle.ring.specs.Read.{fetched, planRead, readRule}
+use Rattle.ring.specs.Pieces.{answerAfter, countsAfter, placesAfter, depthAfter, recordAfter, storesAfter, readAnswer, readHanded, readPlaces, readPhase, readStores, stored, MoveFits, FetchFits}
+use Rattle.ring.specs.declared.state.PageNo.{PageNo}
 use Rattle.ring.specs.declared.state.Size.{Size}
 use Rattle.ring.specs.declared.state.Places.{Places}
 use Rattle.ring.specs.declared.state.Counts.{Counts}
 use Rattle.ring.specs.declared.state.Writer.{Writer}
+use Rattle.ring.specs.declared.state.Reader.{Reader}
 use Rattle.ring.specs.declared.state.Answer.{Answer}
 use Rattle.ring.specs.declared.state.Ring.{Ring}
 use Rattle.ring.specs.declared.moves.Move.{Move}
 use Rattle.ring.specs.declared.moves.Move.the-variants.{Become, Reserve, Drop, Mark, Promote, Clear, Push, Fill, Pend, Commit}
+use Rattle.ring.specs.declared.moves.Fetch.{Fetch}
+use Rattle.ring.specs.declared.moves.Fetch.the-variants as fetch
 use Rattle.ring.specs.declared.moves.Stores.{Stores}
 use Rattle.ring.specs.declared.moves.Stores.the-variants as stores
+use Rattle.ring.proofs.moves.Stores.{the-type}
 use Rattle.ring.proofs.state.Laws.{slotIndex-room}
 use Rattle.ring.proofs.write.Laws.{Allows}
+
+-- the cells named are within the arrays
+abbrev pub StoresFit : Stores → Type 0
+StoresFit stores.Same = Unit {0}
+StoresFit (stores.Number at number t used) = (at < slotRoom) × (t .0 ≤ mostPages)
+StoresFit (stores.Take t word n) = (t .0 ≤ mostPages) × (n .0 ≤ mostPages)
+StoresFit (stores.Word p word) = p .0 ≤ mostPages
+StoresFit (stores.Value at value) = at < slotRoom
+
+-- ---- Write
 
 -- the outcome with each piece given
 abbrev pub leaves : Ring → Answer → Writer → Counts → Places → ℕ → Stores → Outcome
@@ -63,13 +84,7 @@ pub write-leaves :
 write-leaves r {m} ok e ea ew ek ep ed ec =
     rw (ok .shape, ne-eqb (r .depth) 0 (ok .somebody), ← e, ea, ew, ek, ep, ed, ec) (moved-pieces m r)
 
-abbrev pub StoresFit : Stores → Type 0
-StoresFit stores.Same = Unit {0}
-StoresFit (stores.Number at number t used) = (at < slotRoom) × (t .0 ≤ mostPages)
-StoresFit (stores.Take t word n) = (t .0 ≤ mostPages) × (n .0 ≤ mostPages)
-StoresFit (stores.Word p word) = p .0 ≤ mostPages
-StoresFit (stores.Value at value) = at < slotRoom
-
+-- the cells that a Write stores to
 module _ (size : Size) (taken value : ℕ) (words : List ℕ) (le : size .slots ≤ mostSlots) where
   pub stores-fit : (m : Move) → MoveFits m → StoresFit (storesAfter m size taken value words)
   stores-fit (Become next a) h = tt
@@ -82,3 +97,60 @@ module _ (size : Size) (taken value : ℕ) (words : List ℕ) (le : size .slots 
   stores-fit (Fill p slot) h = slotIndex-room size p slot (h .0) le (h .1)
   stores-fit Pend h = tt
   stores-fit Commit h = tt
+
+-- ---- Read
+
+abbrev pub readLeaves : Ring → Answer → ℕ → Places → Reader → Stores → Outcome
+readLeaves r a handed places reader c = gives a (withReader reader (withPlaces places (withHanded handed (stored c r))))
+
+abbrev pub readLeavesBy : Fetch → Ring → Outcome
+readLeavesBy f r =
+    readLeaves r (readAnswer f (r .size) (r .places) (r .numbers) (r .values)) (readHanded f (r .counts .handed)) (readPlaces f (r .places))
+    (readPhase f (r .reader)) (readStores f (r .places .reader) (r .words))
+
+pub fetched-pieces : (f : Fetch) (r : Ring) → fetched f r ≡ readLeavesBy f r
+fetched-pieces fetch.Event r = refl
+fetched-pieces fetch.Empty r = refl
+fetched-pieces fetch.Busy r = refl
+fetched-pieces (fetch.Find p h) r = refl
+fetched-pieces (fetch.Prepare p h) r = refl
+fetched-pieces (fetch.Swap p h) r = refl
+fetched-pieces fetch.Miss r = refl
+
+-- a Read that is allowed leaves these pieces
+pub read-leaves :
+    (r : Ring) {f : Fetch} {a : Answer} {handed : ℕ} {places : Places} {reader : Reader} {c : Stores} →
+    inShape r ≡ true →
+    f ≡ planRead r →
+    a ≡ readAnswer f (r .size) (r .places) (r .numbers) (r .values) →
+    handed ≡ readHanded f (r .counts .handed) →
+    places ≡ readPlaces f (r .places) →
+    reader ≡ readPhase f (r .reader) →
+    c ≡ readStores f (r .places .reader) (r .words) →
+    readRule r ≡ readLeaves r a handed places reader c
+read-leaves r {f} shape e ea eh ep er ec = rw (shape, ← e, ea, eh, ep, er, ec) (fetched-pieces f r)
+
+module _ (reader : PageNo) (words : List ℕ) where
+  -- the cells that a Read stores to
+  pub read-stores-fit : (f : Fetch) → FetchFits f → reader .0 ≤ mostPages → StoresFit (readStores f reader words)
+  read-stores-fit fetch.Event h le = tt
+  read-stores-fit fetch.Empty h le = tt
+  read-stores-fit fetch.Busy h le = tt
+  read-stores-fit (fetch.Find p q) h le = tt
+  read-stores-fit (fetch.Prepare p q) h le = le
+  read-stores-fit (fetch.Swap p q) h le = (h, le)
+  read-stores-fit fetch.Miss h le = tt
+
+  -- of the five kinds of stores a Read makes a word's or a taken page's, and otherwise none
+  pub read-stores-same : (f : Fetch) → OneOf (0 ∷ 1 ∷ 4 ∷ []) (tagOf the-type (readStores f reader words)) → readStores f reader words ≡ stores.Same
+  read-stores-same fetch.Event o = refl
+  read-stores-same fetch.Empty o = refl
+  read-stores-same fetch.Busy o = refl
+  read-stores-same (fetch.Find p q) o = refl
+  read-stores-same (fetch.Prepare p q) (inl o) = absurd (omega arith)
+  read-stores-same (fetch.Prepare p q) (inr (inl o)) = absurd (omega arith)
+  read-stores-same (fetch.Prepare p q) (inr (inr o)) = absurd (omega arith)
+  read-stores-same (fetch.Swap p q) (inl o) = absurd (omega arith)
+  read-stores-same (fetch.Swap p q) (inr (inl o)) = absurd (omega arith)
+  read-stores-same (fetch.Swap p q) (inr (inr o)) = absurd (omega arith)
+  read-stores-same fetch.Miss o = refl

@@ -16,6 +16,7 @@ use Rattle.ring.specs.State.{page, usedAt}
 use Rattle.ring.specs.Shape.{sizeTests, placeTests, smallTests, countsSmall, agreeTests, countsAgree, pageTests, pagesFit, heldTests, heldFits, readerFits, recordFitsAt, wordFitsAt, usedFitsAt, numberFits, numbersFit, countsFit, layoutTests, layoutFits, ringFits, inShape}
 use Rattle.ring.specs.declared.state.PageNo.{PageNo}
 use Rattle.ring.specs.declared.state.Size.{Size}
+use Rattle.ring.specs.declared.state.Counts.{Counts}
 use Rattle.ring.specs.declared.state.Ring.{Ring}
 use Rattle.ring.proofs.Lists.{each, and-left, and-right, allBelow-at, all-getD}
 
@@ -55,6 +56,12 @@ pub held-fits : (p : PageNo) (slot : ℕ) (s : Size) → heldFits p slot s ≡ t
 held-fits p slot s h =
     let e = each (heldTests p slot s) h in
     (leb-true _ _ (e .0), ltb-true _ _ (e .1 .0))
+
+-- what it tells that the counts fit: the differences of a receipt are not below 0
+pub counts-agree : (c : Counts) → countsFit c ≡ true → (c .handed + c .overwritten ≤ c .committed) × (c .committed ≤ c .taken)
+counts-agree c h =
+    let e = each (agreeTests c) (and-right (countsSmall c) (countsAgree c) h) in
+    (leb-true _ _ (e .0), leb-true _ _ (e .1 .0))
 
 module _ (r : Ring) where
   pub in-shape : inShape r ≡ true → InShape r
