@@ -11,3 +11,4 @@ pub mod Complete
 pub mod Shape
 pub mod Refusals
 pub mod Theorem
+pub mod Code

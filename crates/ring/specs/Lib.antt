@@ -16,4 +16,5 @@ pub mod Act
 pub mod Remember
 pub mod History
 pub mod Demand
+pub mod Code
 pub mod Cases
