@@ -1,0 +1,342 @@
+//! The cases of 01, "A small ring on paper", with what 01 says of each written
+//! out; the ring is held to it. The other sections of `cases` follow.
+
+use self::Line::{Act, Commit, Committed, Depth, Fresh, Overwritten, ReaderPage, Words};
+use crate::ring::Action::{Begin, Read, Write};
+use crate::ring::{Action, Answer, Receipt, Refusal, Ring};
+use crate::text::{self, Tally};
+
+/// A line of a case and what 01 says stands there.
+enum Line {
+    Fresh(u32, u32, u32, Answer),
+    Act(Action, Answer),
+    Words([u32; 3]),
+    ReaderPage(u32),
+    Commit(u32, u32),
+    Overwritten(u64),
+    Depth(u32),
+    Committed(u64),
+    /// Begun, taken, handed, overwritten, dropped, waiting, open; complete.
+    Receipt([u64; 7], bool),
+}
+
+const SETUP: Answer = Answer::Refused(Refusal::Setup);
+
+/// Where 01 leaves an answer or a receipt unsaid ("three Writes, last Pending"; the
+/// receipts of K9 to K11), the line is worked out by hand from its rules.
+const K: [(&str, &[Line]); 12] = [
+    (
+        "K1",
+        &[
+            Fresh(2, 1, 0, Answer::Accepted),
+            Words([4, 1, 0]),
+            Act(Begin(70), Answer::Begun(1)),
+            Act(Write, Answer::Reserved(0)),
+            Act(Write, Answer::Filled),
+            Act(Write, Answer::Committed(1)),
+        ],
+    ),
+    (
+        "K2",
+        &[
+            Act(Begin(71), Answer::Begun(1)),
+            Act(Write, Answer::Looked),
+            Act(Write, Answer::Pushed),
+            Act(Write, Answer::Reserved(1)),
+            Act(Write, Answer::Filled),
+            Act(Write, Answer::Committed(2)),
+            Commit(1, 1),
+        ],
+    ),
+    (
+        "K3",
+        &[
+            Act(Begin(72), Answer::Begun(1)),
+            Act(Write, Answer::Looked),
+            Act(Write, Answer::Marked),
+            Words([4, 2, 0]),
+            Overwritten(1),
+        ],
+    ),
+    ("K4", &[Act(Read, Answer::Busy)]),
+    (
+        "K5",
+        &[
+            Act(Write, Answer::Promoted),
+            Words([5, 2, 0]),
+            Act(Write, Answer::Cleared),
+            Words([5, 0, 0]),
+            Act(Write, Answer::Pushed),
+            Act(Write, Answer::Reserved(2)),
+        ],
+    ),
+    (
+        "K6",
+        &[
+            Act(Read, Answer::Found),
+            Act(Read, Answer::Prepared),
+            Words([5, 0, 1]),
+            Act(Read, Answer::Swapped),
+            Words([8, 0, 1]),
+            ReaderPage(1),
+        ],
+    ),
+    (
+        "K7",
+        &[Act(Read, Answer::Event(1, 71)), Act(Read, Answer::Empty)],
+    ),
+    (
+        "K8",
+        &[
+            Act(Write, Answer::Filled),
+            Act(Write, Answer::Committed(3)),
+            Act(Read, Answer::Found),
+            Act(Read, Answer::Prepared),
+            Words([8, 9, 1]),
+            Act(Read, Answer::Swapped),
+            Words([8, 9, 4]),
+            Act(Read, Answer::Event(2, 72)),
+            Line::Receipt([3, 3, 2, 1, 0, 0, 0], false),
+        ],
+    ),
+    (
+        "K9",
+        &[
+            Fresh(2, 1, 0, Answer::Accepted),
+            Act(Begin(10), Answer::Begun(1)),
+            Act(Write, Answer::Reserved(0)),
+            Act(Begin(20), Answer::Begun(2)),
+            Act(Write, Answer::Looked),
+            Act(Write, Answer::Pushed),
+            Act(Write, Answer::Reserved(1)),
+            Act(Write, Answer::Filled),
+            Act(Write, Answer::Pending),
+            Act(Begin(30), Answer::Begun(2)),
+            Act(Write, Answer::Dropped),
+            Act(Write, Answer::Filled),
+            Act(Write, Answer::Committed(2)),
+            Line::Receipt([3, 2, 0, 0, 1, 2, 0], false),
+        ],
+    ),
+    (
+        "K10",
+        &[
+            Fresh(2, 1, 0, Answer::Accepted),
+            Act(Begin(10), Answer::Begun(1)),
+            Act(Begin(20), Answer::Begun(2)),
+            Act(Write, Answer::Reserved(0)),
+            Act(Write, Answer::Filled),
+            Act(Write, Answer::Pending),
+            Act(Begin(30), Answer::Begun(2)),
+            Act(Write, Answer::Looked),
+            Act(Write, Answer::Pushed),
+            Act(Write, Answer::Reserved(1)),
+            Act(Write, Answer::Filled),
+            Act(Write, Answer::Pending),
+            Act(Write, Answer::Dropped),
+            Depth(0),
+            Committed(0),
+            Line::Receipt([3, 2, 0, 0, 1, 0, 2], false),
+        ],
+    ),
+    (
+        "K11",
+        &[
+            Fresh(2, 1, 0, Answer::Accepted),
+            Act(Write, Answer::Refused(Refusal::Nobody)),
+            Act(Begin(10), Answer::Begun(1)),
+            Act(Begin(20), Answer::Begun(2)),
+            Act(Begin(30), Answer::Begun(3)),
+            Act(Begin(40), Answer::Begun(4)),
+            Act(Begin(50), Answer::Refused(Refusal::Depth)),
+            Line::Receipt([4, 0, 0, 0, 0, 0, 0], false),
+        ],
+    ),
+    (
+        "K12",
+        &[
+            Fresh(1, 1, 0, SETUP),
+            Fresh(17, 1, 0, SETUP),
+            Fresh(2, 0, 0, SETUP),
+            Fresh(2, 1, 0, Answer::Accepted),
+            Fresh(16, 16, 1, Answer::Accepted),
+        ],
+    ),
+];
+
+/// The whole text of `cases`, or what differs from 01.
+pub fn run() -> Result<String, String> {
+    let mut out = String::new();
+    small_ring(&mut out)?;
+    section(&mut out, OUT_OF_SHAPE, out_of_shape)?;
+    section(&mut out, MANY, many_readings)?;
+    Ok(out)
+}
+
+const OUT_OF_SHAPE: &str = "Out of shape: fresh(2, 1, 0) with its read position set to 2";
+const MANY: &str = "65537 readings in stop mode, each written and then read until Empty";
+
+/// A section with its heading; what differs in it is told with the heading.
+fn section<F>(out: &mut String, name: &str, run: F) -> Result<(), String>
+where
+    F: FnOnce(&mut String) -> Result<(), String>,
+{
+    text::heading(out, name);
+    run(out).map_err(|differs| format!("{name}: {differs}"))
+}
+
+/// K1 to K12. K2 to K8 go on with the ring of the case before.
+fn small_ring(out: &mut String) -> Result<(), String> {
+    let (mut ring, _) = Ring::fresh(2, 1, 0);
+    for (name, lines) in K {
+        section(out, name, |out| {
+            lines
+                .iter()
+                .try_for_each(|line| run_line(out, &mut ring, line))
+        })?;
+    }
+    Ok(())
+}
+
+/// Prints what the ring says at a line and holds it to what 01 says.
+fn run_line(out: &mut String, ring: &mut Ring, line: &Line) -> Result<(), String> {
+    match *line {
+        Fresh(n, s, mode, expected) => {
+            let (made, answer) = Ring::fresh(n, s, mode);
+            *ring = made;
+            act_line(out, &text::fresh(n, s, mode), answer, expected)?;
+            hold_plain(ring, answer)
+        }
+        Act(action, expected) => {
+            let answer = ring.act(action);
+            act_line(out, &text::action(action), answer, expected)
+        }
+        Words(expected) => {
+            let words = text::words(&ring.words[..=ring.n as usize]);
+            fact_line(out, "words", words, text::words(&expected))
+        }
+        Commit(page, index) => {
+            let expected = format!("page {page}, index {index}");
+            fact_line(out, "commit", text::commit(ring), expected)
+        }
+        ReaderPage(expected) => fact_line(out, "reader page", ring.reader_page, expected),
+        Overwritten(expected) => fact_line(out, "overwritten", ring.overwritten, expected),
+        Depth(expected) => fact_line(out, "depth", ring.depth, expected),
+        Committed(expected) => fact_line(out, "committed", ring.committed, expected),
+        Line::Receipt(counts, complete) => {
+            let receipt = ring.receipt();
+            text::receipt(out, &receipt);
+            hold_receipt(&receipt, counts, complete)
+        }
+    }
+}
+
+fn act_line(out: &mut String, left: &str, got: Answer, expected: Answer) -> Result<(), String> {
+    fact_line(out, left, text::answer(got), text::answer(expected))
+}
+
+fn fact_line<T: ToString>(out: &mut String, left: &str, got: T, expected: T) -> Result<(), String> {
+    let (got, expected) = (got.to_string(), expected.to_string());
+    text::line(out, left, &got);
+    if got == expected {
+        Ok(())
+    } else {
+        Err(format!("{left}: {got} instead of {expected}"))
+    }
+}
+
+/// Refusal 5 gives "the plain ring", "8 pages of 16 slots in overwrite mode".
+fn hold_plain(ring: &Ring, answer: Answer) -> Result<(), String> {
+    let (plain, _) = Ring::fresh(8, 16, 0);
+    if answer == SETUP && *ring != plain {
+        return Err("a refused set-up did not give the plain ring".to_string());
+    }
+    Ok(())
+}
+
+/// Of a receipt that is not refused.
+fn hold_receipt(receipt: &Receipt, counts: [u64; 7], complete: bool) -> Result<(), String> {
+    let held =
+        receipt.refusal.is_none() && receipt.counts() == counts && receipt.complete == complete;
+    if held {
+        Ok(())
+    } else {
+        let got = receipt.counts();
+        Err(format!("receipt {got:?} instead of {counts:?}"))
+    }
+}
+
+/// Refusal 1: "an action or receipt on a state not in shape" gives "the same
+/// state; receipt all zero, not complete".
+fn out_of_shape(out: &mut String) -> Result<(), String> {
+    let (mut ring, _) = Ring::fresh(2, 1, 0);
+    ring.position = 2;
+    for action in [Begin(70), Write, Read] {
+        let mut after = ring.clone();
+        let answer = after.act(action);
+        let refused = Answer::Refused(Refusal::Shape);
+        act_line(out, &text::action(action), answer, refused)?;
+        if after != ring {
+            return Err("not the same state came back".to_string());
+        }
+    }
+    let receipt = ring.receipt();
+    text::receipt(out, &receipt);
+    let refused = receipt.refusal == Some(Refusal::Shape);
+    if !refused || receipt.counts() != [0; 7] || receipt.complete {
+        return Err("the receipt is not refused with zeros".to_string());
+    }
+    Ok(())
+}
+
+/// "N = 16, S = 16, stop mode, 65,537 readings, each written and then read until
+/// Empty. Receipt 65,537 of 65,537, complete."
+fn many_readings(out: &mut String) -> Result<(), String> {
+    const READINGS: u32 = 65_537;
+    let (mut ring, answer) = Ring::fresh(16, 16, 1);
+    act_line(out, &text::fresh(16, 16, 1), answer, Answer::Accepted)?;
+    let mut tally = Tally::default();
+    let mut events = 0;
+    for i in 0..READINGS {
+        tally.count(ring.begin(i));
+        until_written(&mut ring, &mut tally)?;
+        events += until_empty(&mut ring, &mut tally, i)?;
+    }
+    tally.print(out);
+    let all = u64::from(READINGS);
+    fact_line(out, "Event(i, i)", events, all)?;
+    let receipt = ring.receipt();
+    text::receipt(out, &receipt);
+    hold_receipt(&receipt, [all, all, all, 0, 0, 0, 0], true)
+}
+
+/// More than any one reading takes, so that a wrong ring ends too.
+const STEPS: u32 = 1000;
+
+/// "Writes until the answer is Committed or Dropped".
+fn until_written(ring: &mut Ring, tally: &mut Tally) -> Result<(), String> {
+    for _ in 0..STEPS {
+        let answer = ring.write();
+        tally.count(answer);
+        if matches!(answer, Answer::Committed(_) | Answer::Dropped) {
+            return Ok(());
+        }
+    }
+    Err(format!("{STEPS} Writes without Committed or Dropped"))
+}
+
+/// "Reads until the answer is Empty": the number of Events (i, i) among them.
+fn until_empty(ring: &mut Ring, tally: &mut Tally, i: u32) -> Result<u64, String> {
+    let mut events = 0;
+    for _ in 0..STEPS {
+        let answer = ring.read();
+        tally.count(answer);
+        if answer == Answer::Event(i, i) {
+            events += 1;
+        }
+        if answer == Answer::Empty {
+            return Ok(events);
+        }
+    }
+    Err(format!("{STEPS} Reads without Empty"))
+}

@@ -1,0 +1,174 @@
+//! The text form of actions, answers, receipts and tallies (docs/PROGRAMS.md).
+
+use crate::ring::{Action, Answer, Receipt, Refusal, Ring};
+
+/// The answers' names in the order of their codes.
+const NAMES: [&str; 28] = [
+    "Accepted",
+    "Begun",
+    "Reserved",
+    "Looked",
+    "Dropped",
+    "Marked",
+    "Shared",
+    "Retry",
+    "Promoted",
+    "Standing",
+    "Cleared",
+    "Pushed",
+    "Passed",
+    "Filled",
+    "Committed",
+    "Pending",
+    "Event",
+    "Empty",
+    "Found",
+    "Busy",
+    "Prepared",
+    "Swapped",
+    "Missed",
+    "refused 1 SHAPE",
+    "refused 2 DEPTH",
+    "refused 3 NOBODY",
+    "refused 4 WORN",
+    "refused 5 SETUP",
+];
+
+/// What each count of a receipt is called and what it is of.
+const COUNTS: [(&str, &str); 7] = [
+    ("begun", "readings that writers began"),
+    ("taken", "of them given a number and a place in the ring"),
+    ("handed", "of those read out"),
+    ("overwritten", "of those lost to newer readings"),
+    ("dropped", "begun, and lost for want of room"),
+    ("waiting", "committed and not read out yet"),
+    ("open", "given a place and not committed yet"),
+];
+
+/// "Refusals by number".
+pub fn refusal_number(refusal: Refusal) -> u32 {
+    match refusal {
+        Refusal::Shape => 1,
+        Refusal::Depth => 2,
+        Refusal::Nobody => 3,
+        Refusal::Worn => 4,
+        Refusal::Setup => 5,
+    }
+}
+
+/// An answer's code, its place in `NAMES`.
+pub fn code(answer: Answer) -> u32 {
+    match answer {
+        Answer::Accepted => 0,
+        Answer::Begun(_) => 1,
+        Answer::Reserved(_) => 2,
+        Answer::Looked => 3,
+        Answer::Dropped => 4,
+        Answer::Marked => 5,
+        Answer::Shared => 6,
+        Answer::Retry => 7,
+        Answer::Promoted => 8,
+        Answer::Standing => 9,
+        Answer::Cleared => 10,
+        Answer::Pushed => 11,
+        Answer::Passed => 12,
+        Answer::Filled => 13,
+        Answer::Committed(_) => 14,
+        Answer::Pending => 15,
+        Answer::Event(..) => 16,
+        Answer::Empty => 17,
+        Answer::Found => 18,
+        Answer::Busy => 19,
+        Answer::Prepared => 20,
+        Answer::Swapped => 21,
+        Answer::Missed => 22,
+        Answer::Refused(refusal) => 22 + refusal_number(refusal),
+    }
+}
+
+/// The name with its values in brackets, as `Begun(1)` or `Event(1, 71)`.
+pub fn answer(answer: Answer) -> String {
+    let name = NAMES[code(answer) as usize];
+    match answer {
+        Answer::Begun(x) | Answer::Reserved(x) | Answer::Committed(x) => format!("{name}({x})"),
+        Answer::Event(number, value) => format!("{name}({number}, {value})"),
+        _ => name.to_string(),
+    }
+}
+
+pub fn action(action: Action) -> String {
+    match action {
+        Action::Begin(value) => format!("Begin {value}"),
+        Action::Write => "Write".to_string(),
+        Action::Read => "Read".to_string(),
+    }
+}
+
+pub fn fresh(n: u32, s: u32, mode: u32) -> String {
+    format!("fresh({n}, {s}, {mode})")
+}
+
+/// The words of pages 0 to N as `4, 1, 0`.
+pub fn words(words: &[u32]) -> String {
+    let words: Vec<String> = words.iter().map(u32::to_string).collect();
+    words.join(", ")
+}
+
+pub fn commit(ring: &Ring) -> String {
+    format!("page {}, index {}", ring.commit_page, ring.commit_index)
+}
+
+/// Two spaces, the left padded to 18 characters, the right.
+pub fn line(out: &mut String, left: &str, right: &str) {
+    out.push_str(&format!("  {left:<18}{right}\n"));
+}
+
+/// The heading of a section, parted from the section before by an empty line.
+pub fn heading(out: &mut String, heading: &str) {
+    if !out.is_empty() {
+        out.push('\n');
+    }
+    out.push_str(heading);
+    out.push('\n');
+}
+
+pub fn receipt(out: &mut String, receipt: &Receipt) {
+    let refused = match receipt.refusal {
+        Some(refusal) => format!(": {}", answer(Answer::Refused(refusal))),
+        None => String::new(),
+    };
+    out.push_str(&format!("  Receipt{refused}\n"));
+    for ((label, of), count) in COUNTS.iter().zip(receipt.counts()) {
+        out.push_str(&format!("    {label:<14}{count:>10}   {of}\n"));
+    }
+    let (handed, begun) = (receipt.handed, receipt.begun);
+    let complete = if receipt.complete {
+        "complete"
+    } else {
+        "not complete"
+    };
+    out.push_str(&format!(
+        "    {handed} of {begun} readings handed out: {complete}\n"
+    ));
+}
+
+/// How often each kind of answer came.
+#[derive(Default)]
+pub struct Tally {
+    times: [u64; NAMES.len()],
+}
+
+impl Tally {
+    pub fn count(&mut self, answer: Answer) {
+        self.times[code(answer) as usize] += 1;
+    }
+
+    /// A line for each kind of answer that came at least once.
+    pub fn print(&self, out: &mut String) {
+        for (name, times) in NAMES.iter().zip(self.times) {
+            if times > 0 {
+                line(out, name, &times.to_string());
+            }
+        }
+    }
+}
