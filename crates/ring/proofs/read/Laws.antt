@@ -45,7 +45,8 @@ module _ (r : Ring) (s : InShape r) where
 
   limit-fits : readLimit (r .places) (r .used) ≤ r .size .slots
   limit-fits =
-      by-cond (λ (k : ℕ). k ≤ r .size .slots) (readerOnCommit (r .places)) (λ e. s .index) (λ e. s .used-at (r .places .reader .0) (s .reader))
+      let used = s .used-at (r .places .reader .0) (s .reader) in
+      by-cond (λ (k : ℕ). k ≤ r .size .slots) (readerOnCommit (r .places)) (λ e. omega (arith, s)) (λ e. omega (arith, s, used))
 
   find-within : (found : Search) → Here (findBy found)
   find-within (At p h) = tt
