@@ -1,0 +1,97 @@
+// 65537 readings in stop mode, each written and then read until Empty. The lines of the actions are not printed.
+use crate::steps::fresh;
+use ring::Action;
+use ring::Answer;
+use ring::Ring;
+use ring::Step;
+use std::num::wrapping_add_u64;
+
+const READINGS: u32 = 65537;
+
+// A proved loop has to end; no reading here takes as many actions as this.
+const MOST_ACTIONS: u32 = 1000;
+
+// Whether the writer's work has ended.
+fn is_written(answer: Answer) -> bool {
+    match answer {
+        Answer::Committed(_) => true,
+        Answer::Dropped => true,
+        _ => false,
+    }
+}
+
+fn is_empty(answer: Answer) -> bool {
+    match answer {
+        Answer::Empty => true,
+        _ => false,
+    }
+}
+
+// Whether this is the Event of reading i.
+fn is_event_of(answer: Answer, i: u32) -> bool {
+    match answer {
+        Answer::Event(number, value) => (number.0 == i) & (value == i),
+        _ => false,
+    }
+}
+
+// Writes until the writer's work has ended.
+fn write_out(ring: Ring, counts: &mut [u64; 28]) -> Ring {
+    let mut made = ring.act(Action::Write);
+    let mut answer = made.answer;
+    text::count_answer(counts, answer);
+    let mut left = MOST_ACTIONS;
+    while (left > 0) & !is_written(answer) {
+        made = made.ring.act(Action::Write);
+        answer = made.answer;
+        text::count_answer(counts, answer);
+        left = left - 1;
+    }
+    made.ring
+}
+
+// Reads until Empty; `events` counts those that gave reading i.
+fn read_out(ring: Ring, i: u32, counts: &mut [u64; 28], events: &mut u64) -> Ring {
+    let mut made = ring.act(Action::Read);
+    let mut answer = made.answer;
+    text::count_answer(counts, answer);
+    let mut left = MOST_ACTIONS;
+    while (left > 0) & !is_empty(answer) {
+        if is_event_of(answer, i) {
+            *events = wrapping_add_u64(*events, 1);
+        }
+        made = made.ring.act(Action::Read);
+        answer = made.answer;
+        text::count_answer(counts, answer);
+        left = left - 1;
+    }
+    made.ring
+}
+
+// Reading i, with value i.
+fn one_reading(ring: Ring, i: u32, counts: &mut [u64; 28], events: &mut u64) -> Ring {
+    let begun = ring.act(Action::Begin(i));
+    let answer = begun.answer;
+    text::count_answer(counts, answer);
+    let written = write_out(begun.ring, counts);
+    read_out(written, i, counts, events)
+}
+
+fn all_readings(mut ring: Ring, counts: &mut [u64; 28], events: &mut u64) -> Ring {
+    let mut i: u32 = 0;
+    while i < READINGS {
+        ring = one_reading(ring, i, counts, events);
+        i = i + 1;
+    }
+    ring
+}
+
+pub fn run() {
+    text::section(b"65537 readings in stop mode, each written and then read until Empty");
+    let mut counts = [0u64; 28];
+    let mut events: u64 = 0;
+    let ring = all_readings(fresh(16, 16, Ring::STOP), &mut counts, &mut events);
+    text::tally(&counts);
+    text::number_line(b"Event(i, i)", events);
+    text::receipt(ring.receipt());
+}

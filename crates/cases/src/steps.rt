@@ -1,0 +1,44 @@
+// An action with its line.
+use ring::Action;
+use ring::Ring;
+
+// One action and its line; the ring that came back.
+fn step(ring: Ring, action: Action) -> Ring {
+    let made = ring.act(action);
+    let answer = made.answer;
+    text::action_line(action, answer);
+    made.ring
+}
+
+pub fn begin(ring: Ring, value: u32) -> Ring {
+    step(ring, Action::Begin(value))
+}
+
+pub fn write(ring: Ring) -> Ring {
+    step(ring, Action::Write)
+}
+
+pub fn read(ring: Ring) -> Ring {
+    step(ring, Action::Read)
+}
+
+pub fn three_writes(ring: Ring) -> Ring {
+    write(write(write(ring)))
+}
+
+pub fn five_writes(ring: Ring) -> Ring {
+    write(write(three_writes(ring)))
+}
+
+// A set-up and its line; the ring that it gives.
+pub fn fresh(pages: u32, slots: u32, mode: u32) -> Ring {
+    let made = Ring::fresh(pages, slots, mode);
+    let answer = made.answer;
+    text::fresh_line(pages, slots, mode, answer);
+    made.ring
+}
+
+// The paper's small ring: two pages of one slot, in overwrite mode.
+pub fn small_ring() -> Ring {
+    fresh(2, 1, Ring::OVERWRITE)
+}

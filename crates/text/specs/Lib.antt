@@ -1,0 +1,2 @@
+-- What the text's numbers are.
+pub mod Codes

@@ -1,0 +1,26 @@
+// The ring's answers, states and receipts as lines of text on standard output. Every function takes any value: none has a `requires`.
+pub mod codes; // answers by number
+pub mod put; // what a line is made of
+pub mod names; // answers by name
+pub mod lines; // lines about actions and rings, and headings
+pub mod tally; // how often each answer came
+pub mod receipt; // the receipt
+
+// what a caller names
+pub use codes::answer_code;
+pub use codes::first_value;
+pub use codes::second_value;
+pub use lines::action_line;
+pub use lines::commit_line;
+pub use lines::digest_line;
+pub use lines::fresh_line;
+pub use lines::heading;
+pub use lines::number_line;
+pub use lines::section;
+pub use lines::words_line;
+pub use names::answer;
+pub use put::number;
+pub use put::word;
+pub use receipt::receipt;
+pub use tally::count_answer;
+pub use tally::tally;
