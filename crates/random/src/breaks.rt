@@ -1,0 +1,185 @@
+// A random state out of shape: one in shape with one thing broken, by number. N and S are those that the state was drawn with.
+ghost use Prim.Native.Nat.{_≤_};
+use crate::draws::below;
+use crate::draws::excess;
+use crate::draws::no_page;
+use crate::draws::over;
+use crate::draws::page;
+use crate::writers::PhaseDraw;
+use crate::writers::reader_phase;
+use crate::writers::writer_phase;
+use ring::PageNo;
+use ring::Ring;
+use ring::state::Counts;
+use ring::state::Places;
+use ring::state::Reader;
+use ring::state::Size;
+use ring::state::Writer;
+use ring::state::WriterPhase;
+use std::num::wrapping_add_u64;
+use std::num::wrapping_sub_u64;
+
+// 1 to 5.
+fn break_size(s: &mut u32, kind: u32, mut size: Size) -> Size {
+    match kind {
+        1 => size.pages = below(s, 2),
+        2 => size.pages = over(s, 17),
+        3 => size.slots = 0,
+        4 => size.slots = over(s, 17),
+        _ => size.mode = over(s, 2),
+    }
+    size
+}
+
+// 6 to 10.
+fn break_places(s: &mut u32, kind: u32, n: u32, slots: u32, mut places: Places) -> Places
+    requires { ⌜ (n ≤ 16) × (slots ≤ 16) ⌝ }
+{
+    match kind {
+        6 => places.reader = PageNo(no_page(s, n)),
+        7 => places.tail = PageNo(no_page(s, n)),
+        8 => places.commit = PageNo(no_page(s, n)),
+        9 => places.index = over(s, slots + 1),
+        _ => places.position = over(s, slots + 1),
+    }
+    places
+}
+
+// 11 to 13.
+fn break_page(s: &mut u32, kind: u32, n: u32, slots: u32, mut ring: Ring) -> Ring
+    requires { ⌜ (n ≤ 16) × (slots ≤ 16) ⌝ }
+{
+    let at = page(s, n) as usize;
+    match kind {
+        11 => {
+            let next = no_page(s, n);
+            ring.words[at] = 4 * next + below(s, 3);
+        }
+        12 => ring.words[at] = ring.words[at] / 4 * 4 + Ring::BOTH_FLAGS,
+        _ => ring.used[at] = over(s, slots + 1),
+    }
+    ring
+}
+
+// 15 and 16: a tail or a page after it that is no page.
+fn broken_tail(s: &mut u32, kind: u32, n: u32) -> WriterPhase
+    requires { ⌜ n ≤ 16 ⌝ }
+{
+    let code = 1 + below(s, 4);
+    let first = if kind == 15 { no_page(s, n) } else { page(s, n) };
+    let second = if kind == 15 { page(s, n) } else { no_page(s, n) };
+    writer_phase(PhaseDraw {
+        code,
+        first,
+        second,
+        own: false,
+    })
+}
+
+// 17 and 18: a held page that is none, or a slot that is none.
+fn broken_held(s: &mut u32, kind: u32, n: u32, slots: u32) -> WriterPhase
+    requires { ⌜ (n ≤ 16) × (1 ≤ slots) × (slots ≤ 16) ⌝ }
+{
+    let p = if kind == 17 { no_page(s, n) } else { page(s, n) };
+    let slot = if kind == 17 { below(s, slots) } else { over(s, slots) };
+    WriterPhase::Held(PageNo(p), slot)
+}
+
+// 14 to 18.
+fn break_stack(s: &mut u32, kind: u32, n: u32, slots: u32, mut ring: Ring) -> Ring
+    requires { ⌜ (n ≤ 16) × (1 ≤ slots) × (slots ≤ 16) ⌝ }
+{
+    if kind == 14 {
+        ring.depth = over(s, 5);
+        return ring;
+    }
+    let depth = 1 + below(s, 4);
+    ring.depth = depth;
+    let at = below(s, depth) as usize;
+    let phase = if kind <= 16 {
+        broken_tail(s, kind, n)
+    } else {
+        broken_held(s, kind, n, slots)
+    };
+    let w = ring.stack[at];
+    ring.stack[at] = Writer {
+        value: w.value,
+        phase,
+    };
+    ring
+}
+
+// 19 and 20.
+fn broken_reader(s: &mut u32, kind: u32, n: u32) -> Reader
+    requires { ⌜ n ≤ 16 ⌝ }
+{
+    let code = 1 + below(s, 2);
+    let p = if kind == 19 { no_page(s, n) } else { page(s, n) };
+    let h = if kind == 19 { page(s, n) } else { no_page(s, n) };
+    let phase = reader_phase(code, p, h);
+    Reader { phase }
+}
+
+// A count past its limit.
+fn no_count(s: &mut u32) -> u64 {
+    4294967296 + (excess(s) as u64)
+}
+
+// 21 to 26: a count past its limit.
+fn break_count(s: &mut u32, kind: u32, mut c: Counts) -> Counts {
+    match kind {
+        21 => c.begun = no_count(s),
+        22 => c.taken = no_count(s),
+        23 => c.committed = no_count(s),
+        24 => c.handed = no_count(s),
+        25 => c.overwritten = no_count(s),
+        _ => c.dropped = no_count(s),
+    }
+    c
+}
+
+// 27 to 31: counts that do not agree; in 30 and 31 their sum is past 64 bits.
+fn break_sums(kind: u32, mut c: Counts) -> Counts {
+    match kind {
+        27 => c.handed = wrapping_add_u64(wrapping_sub_u64(c.committed, c.overwritten), 1),
+        28 => c.committed = wrapping_add_u64(c.taken, 1),
+        29 => c.dropped = wrapping_add_u64(wrapping_sub_u64(c.begun, c.taken), 1),
+        30 => {
+            c.handed = u64::MAX;
+            c.overwritten = 1;
+        }
+        _ => {
+            c.taken = u64::MAX;
+            c.dropped = 1;
+        }
+    }
+    c
+}
+
+// Which part of the ring a break is of.
+pub fn break_ring(s: &mut u32, kind: u32, n: u32, slots: u32, mut ring: Ring) -> Ring
+    requires { ⌜ (n ≤ 16) × (1 ≤ slots) × (slots ≤ 16) ⌝ }
+{
+    match kind {
+        1..=5 => {
+            let size = ring.size;
+            ring.size = break_size(s, kind, size);
+        }
+        6..=10 => {
+            let places = ring.places;
+            ring.places = break_places(s, kind, n, slots, places);
+        }
+        11..=13 => ring = break_page(s, kind, n, slots, ring),
+        14..=18 => ring = break_stack(s, kind, n, slots, ring),
+        19..=20 => ring.reader = broken_reader(s, kind, n),
+        21..=26 => {
+            let counts = ring.counts;
+            ring.counts = break_count(s, kind, counts);
+        }
+        _ => {
+            let counts = ring.counts;
+            ring.counts = break_sums(kind, counts);
+        }
+    }
+    ring
+}

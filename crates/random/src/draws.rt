@@ -1,0 +1,66 @@
+// The generator: a number that each draw replaces.
+ghost use Prim.Native.Nat.{_+_, _≤_, _<_};
+
+// One draw.
+fn draw(s: &mut u32) -> u32 {
+    let product = 48271 * (*s as u64);
+    *s = (product % 2147483647) as u32;
+    *s
+}
+
+// The generator for a seed, with its first three draws thrown away.
+pub fn generator(seed: u32) -> u32 {
+    let mut s = seed;
+    draw(&mut s);
+    draw(&mut s);
+    draw(&mut s);
+    s
+}
+
+pub fn below(s: &mut u32, n: u32) -> u32
+    requires { ⌜ 0 < n ⌝ }
+    ensures { λ r. ⌜ r < n ⌝ }
+{
+    draw(s) % n
+}
+
+// Any 32-bit number.
+pub fn any(s: &mut u32) -> u32 {
+    let high = below(s, 65536);
+    let low = below(s, 65536);
+    65536 * high + low
+}
+
+// How far a number goes past its limit.
+pub fn excess(s: &mut u32) -> u32
+    ensures { λ r. ⌜ r ≤ 1000000 ⌝ }
+{
+    if below(s, 2) == 0 {
+        return 0;
+    }
+    1 + below(s, 1000000)
+}
+
+// x, or a number above it.
+pub fn over(s: &mut u32, x: u32) -> u32
+    requires { ⌜ x ≤ 17 ⌝ }
+    ensures { λ r. ⌜ r ≤ x + 1000000 ⌝ }
+{
+    x + excess(s)
+}
+
+// A page of a ring of n pages and its reader page.
+pub fn page(s: &mut u32, n: u32) -> u32
+    requires { ⌜ n ≤ 16 ⌝ }
+    ensures { λ r. ⌜ r ≤ n ⌝ }
+{
+    below(s, n + 1)
+}
+
+// A number over every page's.
+pub fn no_page(s: &mut u32, n: u32) -> u32
+    requires { ⌜ n ≤ 16 ⌝ }
+    ensures { λ r. ⌜ r ≤ 1000017 ⌝ }
+{
+    over(s, n + 1)
+}

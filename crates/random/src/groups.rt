@@ -1,0 +1,88 @@
+// Groups of random states, and what each of the three actions makes of a state.
+ghost use Prim.Native.Nat.{_≤_};
+use crate::breaks::break_ring;
+use crate::digest::fold_made;
+use crate::digest::fold_receipt;
+use crate::draws::any;
+use crate::draws::generator;
+use crate::states::draw_ring;
+use crate::states::draw_size;
+use ring::Action;
+use ring::Ring;
+
+const SHAPE_GROUPS: u32 = 10;
+
+const IN_SHAPE: u32 = 4000;
+
+const BREAKS: u32 = 31;
+
+const OUT_OF_SHAPE: u32 = 1000;
+
+// The seed of the first state.
+const FIRST_SEED: u32 = 1000000;
+
+// An action on a state: the answer, the ring and its receipt folded in.
+fn fold_action(h: u32, ring: Ring, action: Action, counts: &mut [u64; 28]) -> u32 {
+    let made = ring.act(action);
+    let d = fold_made(h, made, counts);
+    let after = made.ring;
+    fold_receipt(d, after.receipt())
+}
+
+// A state, in shape where `kind` is 0 and else with that break; its receipt, and then each action on the state itself.
+fn run_state(number: u32, kind: u32, h: u32, counts: &mut [u64; 28]) -> u32
+    requires { ⌜ number ≤ 71000 ⌝ }
+{
+    let mut s = generator(FIRST_SEED + number);
+    let size = draw_size(&mut s);
+    let mut ring = draw_ring(&mut s, size);
+    if kind > 0 {
+        ring = break_ring(&mut s, kind, size.pages, size.slots, ring);
+    }
+    let value = any(&mut s);
+    let mut d = fold_receipt(h, ring.receipt());
+    d = fold_action(d, ring, Action::Begin(value), counts);
+    d = fold_action(d, ring, Action::Write, counts);
+    fold_action(d, ring, Action::Read, counts)
+}
+
+// The digest of a group's states.
+fn run_group(first: u32, states: u32, kind: u32, counts: &mut [u64; 28]) -> u32
+    requires { ⌜ (first ≤ 70000) × (states ≤ 4000) ⌝ }
+{
+    let mut h: u32 = 0;
+    let mut i: u32 = 0;
+    while i < states {
+        h = run_state(first + i, kind, h, counts);
+        i = i + 1;
+    }
+    h
+}
+
+fn in_shape(counts: &mut [u64; 28]) {
+    let mut group: u32 = 0;
+    while group < SHAPE_GROUPS {
+        let digest = run_group(group * IN_SHAPE, IN_SHAPE, 0, counts);
+        group = group + 1;
+        text::digest_line(b"in shape ", group as u64, b"", digest);
+    }
+}
+
+fn out_of_shape(counts: &mut [u64; 28]) {
+    let mut kind: u32 = 0;
+    while kind < BREAKS {
+        let first = SHAPE_GROUPS * IN_SHAPE + kind * OUT_OF_SHAPE;
+        kind = kind + 1;
+        let digest = run_group(first, OUT_OF_SHAPE, kind, counts);
+        text::digest_line(b"break ", kind as u64, b"", digest);
+    }
+}
+
+pub fn run() {
+    let mut counts = [0u64; 28];
+    text::section(b"Random states: each of the three actions on 71000 states");
+    in_shape(&mut counts);
+    out_of_shape(&mut counts);
+    text::section(b"Answers to the states");
+    text::tally(&counts);
+}
