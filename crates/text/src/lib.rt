@@ -3,8 +3,8 @@ pub mod codes; // answers by number
 pub mod put; // what a line is made of
 pub mod names; // answers by name
 pub mod lines; // lines about actions and rings, and headings
-pub mod tally; // how often each answer came
-pub mod receipt; // the receipt
+pub mod tallies; // how often each answer came
+pub mod receipts; // the receipt
 
 // what a caller names
 pub use codes::answer_code;
@@ -21,6 +21,6 @@ pub use lines::words_line;
 pub use names::answer;
 pub use put::number;
 pub use put::word;
-pub use receipt::receipt;
-pub use tally::count_answer;
-pub use tally::tally;
+pub use receipts::receipt;
+pub use tallies::count_answer;
+pub use tallies::tally;
