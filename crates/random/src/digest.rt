@@ -31,10 +31,11 @@ fn fold_three(h: u32, x: u32, y: u32, z: u32) -> u32 {
 }
 
 pub fn fold_answer(h: u32, answer: Answer) -> u32 {
-    // an answer's values are below 2^32: a count that is told stood in shape
-    let first = (text::first_value(answer) % 4294967296) as u32;
-    let second = (text::second_value(answer) % 4294967296) as u32;
-    fold_three(h, text::answer_code(answer), first, second)
+    let numbers = text::answer_numbers(answer);
+    // the values are below 2^32: a count that is told stood in shape
+    let first = (numbers.first % 4294967296) as u32;
+    let second = (numbers.second % 4294967296) as u32;
+    fold_three(h, numbers.code, first, second)
 }
 
 pub fn fold_receipt(h: u32, r: Receipt) -> u32 {

@@ -1,55 +1,53 @@
--- The codes of the answers' kinds, in the order of the tally, and the values in an answer's brackets. Assumes nothing.
-use Prim.Native.Nat.{ℕ, _+_}
-use mathlib.Core.List.{List, [], _∷_}
-use Rattle.ring.specs.Answers.{numberOf, told}
+-- An answer as numbers: the code of its kind, in the order of the tally, and the values in its brackets. Assumes nothing.
+use Prim.Native.Nat.{ℕ}
 use Rattle.ring.specs.declared.state.Refusal.{Refusal}
+use Rattle.ring.specs.declared.state.Refusal.the-variants.{Shape, Depth, Nobody, Worn, SetUp}
 use Rattle.ring.specs.declared.state.Answer.{Answer}
 use Rattle.ring.specs.declared.state.Answer.the-variants.{Accepted, Begun, Reserved, Looked, Dropped, Marked, Shared, Retry, Promoted, Standing, Cleared, Pushed, Passed, Filled, Committed, Pending, Event, Empty, Found, Busy, Prepared, Swapped, Missed, Refused}
+use Rattle.text.specs.declared.codes.Numbers.{Numbers}
 
--- how many kinds there are, with each refusal as one of its own
+-- how many kinds of answer there are, with each refusal as one of its own
 abbrev pub kinds : ℕ
 kinds = 28
 
 abbrev pub refusalCode : Refusal → ℕ
-refusalCode why = 22 + numberOf why
+refusalCode Shape = 23
+refusalCode Depth = 24
+refusalCode Nobody = 25
+refusalCode Worn = 26
+refusalCode SetUp = 27
 
-abbrev pub codeOf : Answer → ℕ
-codeOf Accepted = 0
-codeOf (Begun _) = 1
-codeOf (Reserved _) = 2
-codeOf Looked = 3
-codeOf Dropped = 4
-codeOf Marked = 5
-codeOf Shared = 6
-codeOf Retry = 7
-codeOf Promoted = 8
-codeOf Standing = 9
-codeOf Cleared = 10
-codeOf Pushed = 11
-codeOf Passed = 12
-codeOf Filled = 13
-codeOf (Committed _) = 14
-codeOf Pending = 15
-codeOf (Event _ _) = 16
-codeOf Empty = 17
-codeOf Found = 18
-codeOf Busy = 19
-codeOf Prepared = 20
-codeOf Swapped = 21
-codeOf Missed = 22
-codeOf (Refused why) = refusalCode why
+abbrev pub withTwo : ℕ → ℕ → ℕ → Numbers
+withTwo code first second = record { code = code; first = first; second = second }
 
--- the value at the front, 0 where there is none
-abbrev pub front : List ℕ → ℕ
-front [] = 0
-front (x ∷ _) = x
+abbrev pub withOne : ℕ → ℕ → Numbers
+withOne code first = withTwo code first 0
 
-abbrev pub rest : List ℕ → List ℕ
-rest [] = []
-rest (_ ∷ xs) = xs
+abbrev pub kind : ℕ → Numbers
+kind code = withOne code 0
 
-abbrev pub firstOf : Answer → ℕ
-firstOf a = front (told a .values)
-
-abbrev pub secondOf : Answer → ℕ
-secondOf a = front (rest (told a .values))
+abbrev pub numbersOf : Answer → Numbers
+numbersOf Accepted = kind 0
+numbersOf (Begun depth) = withOne 1 depth
+numbersOf (Reserved n) = withOne 2 (n .0)
+numbersOf Looked = kind 3
+numbersOf Dropped = kind 4
+numbersOf Marked = kind 5
+numbersOf Shared = kind 6
+numbersOf Retry = kind 7
+numbersOf Promoted = kind 8
+numbersOf Standing = kind 9
+numbersOf Cleared = kind 10
+numbersOf Pushed = kind 11
+numbersOf Passed = kind 12
+numbersOf Filled = kind 13
+numbersOf (Committed count) = withOne 14 count
+numbersOf Pending = kind 15
+numbersOf (Event n v) = withTwo 16 (n .0) v
+numbersOf Empty = kind 17
+numbersOf Found = kind 18
+numbersOf Busy = kind 19
+numbersOf Prepared = kind 20
+numbersOf Swapped = kind 21
+numbersOf Missed = kind 22
+numbersOf (Refused why) = kind (refusalCode why)

@@ -1,13 +1,18 @@
-// Answers by number: the code of an answer's kind, and the values in its brackets.
+// Answers by number: the code of an answer's kind, with each refusal as a kind of its own, and the values in its brackets.
 ghost use mathlib.Core.Path.{_≡_};
-ghost use Prim.Native.Nat.{_<_};
-ghost use Rattle.text.specs.Codes.{refusalCode, codeOf, kinds, firstOf, secondOf};
+ghost use Rattle.text.specs.Codes.{refusalCode, kind, withOne, numbersOf};
 use ring::Answer;
 use ring::Refusal;
 
+// The code of an answer's kind, and its first and its second value, 0 for a value that it does not have.
+pub struct Numbers {
+    pub code: u32,
+    pub first: u64,
+    pub second: u64,
+}
+
 fn refusal_code(why: Refusal) -> u32
     ensures { λ r. ⌜ r ≡ refusalCode why ⌝ }
-    ensures { λ r. ⌜ r < kinds ⌝ }
 {
     match why {
         Refusal::Shape => 23,
@@ -18,58 +23,59 @@ fn refusal_code(why: Refusal) -> u32
     }
 }
 
-// The code of an answer's kind; each refusal is a kind of its own.
-pub fn answer_code(answer: Answer) -> u32
-    ensures { λ r. ⌜ r ≡ codeOf answer ⌝ }
-    ensures { λ r. ⌜ r < kinds ⌝ }
+// An answer with no value.
+fn kind(code: u32) -> Numbers
+    ensures { λ r. ⌜ r ≡ kind code ⌝ }
 {
-    match answer {
-        Answer::Accepted => 0,
-        Answer::Begun(_) => 1,
-        Answer::Reserved(_) => 2,
-        Answer::Looked => 3,
-        Answer::Dropped => 4,
-        Answer::Marked => 5,
-        Answer::Shared => 6,
-        Answer::Retry => 7,
-        Answer::Promoted => 8,
-        Answer::Standing => 9,
-        Answer::Cleared => 10,
-        Answer::Pushed => 11,
-        Answer::Passed => 12,
-        Answer::Filled => 13,
-        Answer::Committed(_) => 14,
-        Answer::Pending => 15,
-        Answer::Event(_, _) => 16,
-        Answer::Empty => 17,
-        Answer::Found => 18,
-        Answer::Busy => 19,
-        Answer::Prepared => 20,
-        Answer::Swapped => 21,
-        Answer::Missed => 22,
-        Answer::Refused(why) => refusal_code(why),
+    Numbers {
+        code,
+        first: 0,
+        second: 0,
     }
 }
 
-// The first value in an answer's brackets, 0 where it has none.
-pub fn first_value(answer: Answer) -> u64
-    ensures { λ r. ⌜ r ≡ firstOf answer ⌝ }
+// An answer with one value.
+fn with_one(code: u32, first: u64) -> Numbers
+    ensures { λ r. ⌜ r ≡ withOne code first ⌝ }
 {
-    match answer {
-        Answer::Begun(depth) => depth as u64,
-        Answer::Reserved(number) => number.0 as u64,
-        Answer::Committed(count) => count,
-        Answer::Event(number, _) => number.0 as u64,
-        _ => 0,
+    Numbers {
+        code,
+        first,
+        second: 0,
     }
 }
 
-// The second value in an answer's brackets, 0 where it has none.
-pub fn second_value(answer: Answer) -> u64
-    ensures { λ r. ⌜ r ≡ secondOf answer ⌝ }
+pub fn answer_numbers(answer: Answer) -> Numbers
+    ensures { λ r. ⌜ r ≡ numbersOf answer ⌝ }
 {
     match answer {
-        Answer::Event(_, value) => value as u64,
-        _ => 0,
+        Answer::Accepted => kind(0),
+        Answer::Begun(depth) => with_one(1, depth as u64),
+        Answer::Reserved(number) => with_one(2, number.0 as u64),
+        Answer::Looked => kind(3),
+        Answer::Dropped => kind(4),
+        Answer::Marked => kind(5),
+        Answer::Shared => kind(6),
+        Answer::Retry => kind(7),
+        Answer::Promoted => kind(8),
+        Answer::Standing => kind(9),
+        Answer::Cleared => kind(10),
+        Answer::Pushed => kind(11),
+        Answer::Passed => kind(12),
+        Answer::Filled => kind(13),
+        Answer::Committed(count) => with_one(14, count),
+        Answer::Pending => kind(15),
+        Answer::Event(number, value) => Numbers {
+            code: 16,
+            first: number.0 as u64,
+            second: value as u64,
+        },
+        Answer::Empty => kind(17),
+        Answer::Found => kind(18),
+        Answer::Busy => kind(19),
+        Answer::Prepared => kind(20),
+        Answer::Swapped => kind(21),
+        Answer::Missed => kind(22),
+        Answer::Refused(why) => kind(refusal_code(why)),
     }
 }

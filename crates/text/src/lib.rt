@@ -7,9 +7,8 @@ pub mod tallies; // how often each answer came
 pub mod receipts; // the receipt
 
 // what a caller names
-pub use codes::answer_code;
-pub use codes::first_value;
-pub use codes::second_value;
+pub use codes::Numbers;
+pub use codes::answer_numbers;
 pub use lines::action_line;
 pub use lines::commit_line;
 pub use lines::digest_line;

@@ -1,4 +1,5 @@
-// Headings, and lines of two columns about an action or a ring.
+// Headings, and lines of two columns about an action or a ring. Sums of lengths wrap, since nothing bounds a text.
+ghost use Prim.Native.Nat.{_≤_};
 use crate::names::answer;
 use crate::put::end_line;
 use crate::put::number;
@@ -36,7 +37,7 @@ pub fn number_line(text: &[u8], n: u64) {
     end_line();
 }
 
-// A digest, with a first column that has a number in it. The sums wrap, since nothing bounds the texts.
+// A digest, with a first column that has a number in it.
 pub fn digest_line(before: &[u8], n: u64, after: &[u8], digest: u32) {
     word(b"  ");
     let mut written = word(before);
@@ -56,14 +57,14 @@ fn answered(a: Answer) {
 // A set-up and its answer.
 pub fn fresh_line(pages: u32, slots: u32, mode: u32, a: Answer) {
     word(b"  fresh(");
-    let n = number(pages as u64);
-    word(b", ");
-    let s = number(slots as u64);
-    word(b", ");
-    let m = number(mode as u64);
-    word(b")");
     // 11 characters stand around the three numbers
-    pad(11 + n + s + m);
+    let mut written = wrapping_add_usize(11, number(pages as u64));
+    word(b", ");
+    written = wrapping_add_usize(written, number(slots as u64));
+    word(b", ");
+    written = wrapping_add_usize(written, number(mode as u64));
+    word(b")");
+    pad(written);
     answered(a);
 }
 
@@ -72,8 +73,7 @@ fn action_label(action: Action) {
     match action {
         Action::Begin(value) => {
             word(b"  Begin ");
-            let digits = number(value as u64);
-            pad(6 + digits);
+            pad(wrapping_add_usize(6, number(value as u64)));
         }
         Action::Write => label(b"Write"),
         Action::Read => label(b"Read"),
@@ -86,14 +86,29 @@ pub fn action_line(action: Action, a: Answer) {
     answered(a);
 }
 
-// The words of pages 0 to `last`, or to 16 where that is less.
-fn words(words: &[u32; 17], last: u32) {
-    number(words[0] as u64);
+// The last page whose word the ring has room for: no function here asks that a ring is in shape.
+fn last_page(pages: u32) -> u32
+    ensures { λ r. ⌜ r ≤ 16 ⌝ }
+{
+    if pages < 16 { pages } else { 16 }
+}
+
+fn link_word(w: u32) {
+    number(w as u64);
+}
+
+fn next_word(w: u32) {
+    word(b", ");
+    link_word(w);
+}
+
+fn words(words: &[u32; 17], pages: u32) {
+    let last = last_page(pages);
+    link_word(words[0]);
     let mut p: u32 = 1;
-    while (p <= last) & (p < 17) {
+    while p <= last {
         let at = p as usize;
-        word(b", ");
-        number(words[at] as u64);
+        next_word(words[at]);
         p = p + 1;
     }
 }

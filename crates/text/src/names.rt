@@ -1,6 +1,6 @@
 // Answers by name.
 ghost use Prim.Native.Nat.{_≤_};
-use crate::codes::answer_code;
+use crate::codes::answer_numbers;
 use crate::put::number;
 use crate::put::word;
 use ring::Answer;
@@ -77,12 +77,13 @@ fn two_values(first: u64, second: u64) {
 
 // An answer: its name, with its values in brackets.
 pub fn answer(answer: Answer) {
-    name(answer_code(answer));
+    let numbers = answer_numbers(answer);
+    name(numbers.code);
     match answer {
         Answer::Begun(depth) => one_value(depth as u64),
-        Answer::Reserved(number) => one_value(number.0 as u64),
+        Answer::Reserved(reading) => one_value(reading.0 as u64),
         Answer::Committed(count) => one_value(count),
-        Answer::Event(number, value) => two_values(number.0 as u64, value as u64),
+        Answer::Event(reading, value) => two_values(reading.0 as u64, value as u64),
         _ => (),
     }
 }

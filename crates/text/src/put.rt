@@ -28,7 +28,7 @@ pub fn number(n: u64) -> usize
 // The first n of a text, or all of it where it is shorter.
 fn front(text: &[u8], n: usize) {
     if n <= text.len() {
-        io::write_all(STDOUT_FILENO, &text[..n]);
+        io::write_all(STDOUT_FILENO, &text[0..n]);
     } else {
         io::write_all(STDOUT_FILENO, text);
     }

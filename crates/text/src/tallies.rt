@@ -1,5 +1,5 @@
 // How often each kind of answer came: a count for each code.
-use crate::codes::answer_code;
+use crate::codes::answer_numbers;
 use crate::names::name;
 use crate::put::end_line;
 use crate::put::number;
@@ -10,7 +10,8 @@ use std::num::wrapping_add_u64;
 
 // One more answer of its kind.
 pub fn count_answer(counts: &mut [u64; 28], answer: Answer) {
-    let code = answer_code(answer) as usize;
+    let numbers = answer_numbers(answer);
+    let code = numbers.code as usize;
     counts[code] = wrapping_add_u64(counts[code], 1);
 }
 

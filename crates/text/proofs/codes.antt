@@ -1,0 +1,2 @@
+-- What the proofs of answers by number share.
+pub mod Laws
