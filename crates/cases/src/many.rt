@@ -41,7 +41,7 @@ fn write_out(ring: Ring, counts: &mut [u64; 28]) -> Ring {
     let mut answer = made.answer;
     text::count_answer(counts, answer);
     let mut left = MOST_ACTIONS;
-    while (left > 0) & !is_written(answer) {
+    while left > 0 && !is_written(answer) {
         made = made.ring.act(Action::Write);
         answer = made.answer;
         text::count_answer(counts, answer);
@@ -56,7 +56,7 @@ fn read_out(ring: Ring, i: u32, counts: &mut [u64; 28], events: &mut u64) -> Rin
     let mut answer = made.answer;
     text::count_answer(counts, answer);
     let mut left = MOST_ACTIONS;
-    while (left > 0) & !is_empty(answer) {
+    while left > 0 && !is_empty(answer) {
         if is_event_of(answer, i) {
             *events = wrapping_add_u64(*events, 1);
         }

@@ -31,18 +31,29 @@ fn break_size(s: &mut u32, kind: u32, mut size: Size) -> Size {
     size
 }
 
+fn missing_page(s: &mut u32, n: u32) -> PageNo
+    requires { ⌜ n ≤ 16 ⌝ }
+{
+    PageNo(no_page(s, n))
+}
+
 // 6 to 10.
 fn break_places(s: &mut u32, kind: u32, n: u32, slots: u32, mut places: Places) -> Places
     requires { ⌜ (n ≤ 16) × (slots ≤ 16) ⌝ }
 {
     match kind {
-        6 => places.reader = PageNo(no_page(s, n)),
-        7 => places.tail = PageNo(no_page(s, n)),
-        8 => places.commit = PageNo(no_page(s, n)),
+        6 => places.reader = missing_page(s, n),
+        7 => places.tail = missing_page(s, n),
+        8 => places.commit = missing_page(s, n),
         9 => places.index = over(s, slots + 1),
         _ => places.position = over(s, slots + 1),
     }
     places
+}
+
+// A word with its page kept and both flags set.
+fn with_both_flags(w: u32) -> u32 {
+    w / 4 * 4 + Ring::BOTH_FLAGS
 }
 
 // 11 to 13.
@@ -55,7 +66,10 @@ fn break_page(s: &mut u32, kind: u32, n: u32, slots: u32, mut ring: Ring) -> Rin
             let next = no_page(s, n);
             ring.words[at] = 4 * next + below(s, 3);
         }
-        12 => ring.words[at] = ring.words[at] / 4 * 4 + Ring::BOTH_FLAGS,
+        12 => {
+            let w = ring.words[at];
+            ring.words[at] = with_both_flags(w);
+        }
         _ => ring.used[at] = over(s, slots + 1),
     }
     ring

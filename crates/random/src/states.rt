@@ -112,10 +112,12 @@ pub fn draw_ring(s: &mut u32, size: Size) -> Ring
     ring.places = draw_places(s, n, slots);
     let words = draw_words(s, n);
     ring.words = words;
-    ring.used = draw_used(s, n, slots);
+    let used = draw_used(s, n, slots);
+    ring.used = used;
     let depth = below(s, 5);
     ring.depth = depth;
-    ring.stack = draw_stack(s, n, slots, depth, &words);
+    let stack = draw_stack(s, n, slots, depth, &words);
+    ring.stack = stack;
     ring.reader = draw_reader(s, n, &words);
     ring = draw_slots(s, ring);
     ring.counts = draw_counts(s);

@@ -20,7 +20,8 @@ pub struct PhaseDraw {
 pub fn writer_phase(d: PhaseDraw) -> WriterPhase {
     let t = PageNo(d.first);
     let n = PageNo(d.second);
-    match d.code {
+    let code = d.code;
+    match code {
         0 => WriterPhase::Want,
         1 => WriterPhase::Mark(t, n),
         2 => WriterPhase::Promote(t, n, d.own),
