@@ -1,5 +1,5 @@
 // Groups of random states, and what each of the three actions makes of a state.
-ghost use Prim.Native.Nat.{_≤_};
+ghost use Prim.Native.Nat.{_+_, _≤_, _<_};
 use crate::breaks::break_ring;
 use crate::digest::fold_made;
 use crate::digest::fold_receipt;
@@ -31,7 +31,7 @@ fn fold_action(h: u32, ring: Ring, action: Action, counts: &mut [u64; 28]) -> u3
 
 // A state, in shape where `kind` is 0 and else with that break; its receipt, and then each action on the state itself.
 fn run_state(number: u32, kind: u32, h: u32, counts: &mut [u64; 28]) -> u32
-    requires { ⌜ number ≤ 71000 ⌝ }
+    requires { ⌜ number < 71000 ⌝ }
 {
     let mut s = generator(FIRST_SEED + number);
     let size = draw_size(&mut s);
@@ -48,7 +48,7 @@ fn run_state(number: u32, kind: u32, h: u32, counts: &mut [u64; 28]) -> u32
 
 // The digest of a group's states.
 fn run_group(first: u32, states: u32, kind: u32, counts: &mut [u64; 28]) -> u32
-    requires { ⌜ (first ≤ 70000) × (states ≤ 4000) ⌝ }
+    requires { ⌜ first + states ≤ 71000 ⌝ }
 {
     let mut h: u32 = 0;
     let mut i: u32 = 0;
@@ -59,22 +59,31 @@ fn run_group(first: u32, states: u32, kind: u32, counts: &mut [u64; 28]) -> u32
     h
 }
 
+// Group 0 is the first.
+fn in_shape_line(group: u32, digest: u32) {
+    text::digest_line(b"in shape ", 1 + (group as u64), b"", digest);
+}
+
 fn in_shape(counts: &mut [u64; 28]) {
     let mut group: u32 = 0;
     while group < SHAPE_GROUPS {
         let digest = run_group(group * IN_SHAPE, IN_SHAPE, 0, counts);
+        in_shape_line(group, digest);
         group = group + 1;
-        text::digest_line(b"in shape ", group as u64, b"", digest);
     }
 }
 
+fn break_line(kind: u32, digest: u32) {
+    text::digest_line(b"break ", kind as u64, b"", digest);
+}
+
 fn out_of_shape(counts: &mut [u64; 28]) {
-    let mut kind: u32 = 0;
-    while kind < BREAKS {
-        let first = SHAPE_GROUPS * IN_SHAPE + kind * OUT_OF_SHAPE;
-        kind = kind + 1;
+    let mut kind: u32 = 1;
+    while kind <= BREAKS {
+        let first = SHAPE_GROUPS * IN_SHAPE + (kind - 1) * OUT_OF_SHAPE;
         let digest = run_group(first, OUT_OF_SHAPE, kind, counts);
-        text::digest_line(b"break ", kind as u64, b"", digest);
+        break_line(kind, digest);
+        kind = kind + 1;
     }
 }
 

@@ -1,0 +1,26 @@
+-- `lists::run_group` is safe and ends. The measure is what is left of the lists. Assumes nothing.
+use borrow.Author.Needs.{needs}
+use Prim.Native.Nat.{_-_}
+use Rattle.random.proofs.lists.run_group.Statement.{statement}
+use Rattle.random.proofs.lists.run_group.Tie as tie
+
+abbrev Inv-loop : tie.InvT-loop
+Inv-loop group counts₀ h₀ i₀ counts h i = Unit {0}
+
+abbrev μ-loop : tie.MeasureT-loop
+μ-loop group counts₀ h₀ i₀ counts h i = 672 - i
+
+pub run-group-spec : {M : Type 1} → statement M
+run-group-spec =
+    tie.close
+    (tie.spec
+    Inv-loop
+    μ-loop
+    (λ c. search needs)
+    (λ c. search needs)
+    (λ c. search needs)
+    (λ c κs. search needs)
+    (λ c. search needs)
+    (λ c. search needs)
+    (λ c. search needs)
+    (λ c. search needs))
