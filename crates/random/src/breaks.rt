@@ -80,8 +80,16 @@ fn broken_tail(s: &mut u32, kind: u32, n: u32) -> WriterPhase
     requires { ⌜ n ≤ 16 ⌝ }
 {
     let code = 1 + below(s, 4);
-    let first = if kind == 15 { no_page(s, n) } else { page(s, n) };
-    let second = if kind == 15 { page(s, n) } else { no_page(s, n) };
+    let first = if kind == 15 {
+        no_page(s, n)
+    } else {
+        page(s, n)
+    };
+    let second = if kind == 15 {
+        page(s, n)
+    } else {
+        no_page(s, n)
+    };
     writer_phase(PhaseDraw {
         code,
         first,
@@ -94,8 +102,16 @@ fn broken_tail(s: &mut u32, kind: u32, n: u32) -> WriterPhase
 fn broken_held(s: &mut u32, kind: u32, n: u32, slots: u32) -> WriterPhase
     requires { ⌜ (n ≤ 16) × (1 ≤ slots) × (slots ≤ 16) ⌝ }
 {
-    let p = if kind == 17 { no_page(s, n) } else { page(s, n) };
-    let slot = if kind == 17 { below(s, slots) } else { over(s, slots) };
+    let p = if kind == 17 {
+        no_page(s, n)
+    } else {
+        page(s, n)
+    };
+    let slot = if kind == 17 {
+        below(s, slots)
+    } else {
+        over(s, slots)
+    };
     WriterPhase::Held(PageNo(p), slot)
 }
 
@@ -128,8 +144,16 @@ fn broken_reader(s: &mut u32, kind: u32, n: u32) -> Reader
     requires { ⌜ n ≤ 16 ⌝ }
 {
     let code = 1 + below(s, 2);
-    let p = if kind == 19 { no_page(s, n) } else { page(s, n) };
-    let h = if kind == 19 { page(s, n) } else { no_page(s, n) };
+    let p = if kind == 19 {
+        no_page(s, n)
+    } else {
+        page(s, n)
+    };
+    let h = if kind == 19 {
+        page(s, n)
+    } else {
+        no_page(s, n)
+    };
     let phase = reader_phase(code, p, h);
     Reader { phase }
 }

@@ -109,7 +109,14 @@ fn fold_stack(h: u32, stack: [Writer; 4]) -> u32 {
 }
 
 // What is no array: the set-up, where the ring stands, its counts, and the reader's and the writers' phases.
-fn control_digest(size: Size, places: Places, counts: Counts, depth: u32, reader: Reader, stack: [Writer; 4]) -> u32 {
+fn control_digest(
+    size: Size,
+    places: Places,
+    counts: Counts,
+    depth: u32,
+    reader: Reader,
+    stack: [Writer; 4],
+) -> u32 {
     let mut d = fold_three(0, size.pages, size.slots, size.mode);
     d = fold_places(d, places);
     d = fold_counts(d, counts);

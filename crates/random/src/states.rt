@@ -64,7 +64,11 @@ fn draw_words(s: &mut u32, n: u32) -> [u32; 17]
     let mut p: u32 = 0;
     while p < 17 {
         let at = p as usize;
-        words[at] = if p <= n { draw_word(s, n, is_bare) } else { any(s) };
+        words[at] = if p <= n {
+            draw_word(s, n, is_bare)
+        } else {
+            any(s)
+        };
         p = p + 1;
     }
     words
@@ -74,7 +78,11 @@ fn draw_words(s: &mut u32, n: u32) -> [u32; 17]
 fn draw_full(s: &mut u32, slots: u32) -> u32
     requires { ⌜ slots ≤ 16 ⌝ }
 {
-    if below(s, 2) == 0 { slots } else { below(s, slots + 1) }
+    if below(s, 2) == 0 {
+        slots
+    } else {
+        below(s, slots + 1)
+    }
 }
 
 fn draw_used(s: &mut u32, n: u32, slots: u32) -> [u32; 17]

@@ -45,9 +45,17 @@ fn handed_line(handed: u64, begun: u64, complete: bool) {
 pub fn receipt(r: Receipt) {
     receipt_heading(r.refusal);
     count_line(b"begun", r.begun, b"readings that writers began");
-    count_line(b"taken", r.taken, b"of them given a number and a place in the ring");
+    count_line(
+        b"taken",
+        r.taken,
+        b"of them given a number and a place in the ring",
+    );
     count_line(b"handed", r.handed, b"of those read out");
-    count_line(b"overwritten", r.overwritten, b"of those lost to newer readings");
+    count_line(
+        b"overwritten",
+        r.overwritten,
+        b"of those lost to newer readings",
+    );
     count_line(b"dropped", r.dropped, b"begun, and lost for want of room");
     count_line(b"waiting", r.waiting, b"committed and not read out yet");
     count_line(b"open", r.open, b"given a place and not committed yet");
