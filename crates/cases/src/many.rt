@@ -5,6 +5,7 @@ use ring::Answer;
 use ring::Ring;
 use ring::Step;
 use std::num::wrapping_add_u64;
+use text::Tally;
 
 const READINGS: u32 = 65537;
 
@@ -36,25 +37,25 @@ fn is_event_of(answer: Answer, i: u32) -> bool {
 }
 
 // Writes until the writer's work has ended.
-fn write_out(ring: Ring, counts: &mut [u64; 28]) -> Ring {
+fn write_out(ring: Ring, tally: &mut Tally) -> Ring {
     let mut made = ring.act(Action::Write);
     let mut answer = made.answer;
-    text::count_answer(counts, answer);
+    text::count_answer(tally, answer);
     let mut left = MOST_ACTIONS;
     while left > 0 && !is_written(answer) {
         made = made.ring.act(Action::Write);
         answer = made.answer;
-        text::count_answer(counts, answer);
+        text::count_answer(tally, answer);
         left = left - 1;
     }
     made.ring
 }
 
 // Reads until Empty; `events` counts those that gave reading i.
-fn read_out(ring: Ring, i: u32, counts: &mut [u64; 28], events: &mut u64) -> Ring {
+fn read_out(ring: Ring, i: u32, tally: &mut Tally, events: &mut u64) -> Ring {
     let mut made = ring.act(Action::Read);
     let mut answer = made.answer;
-    text::count_answer(counts, answer);
+    text::count_answer(tally, answer);
     let mut left = MOST_ACTIONS;
     while left > 0 && !is_empty(answer) {
         if is_event_of(answer, i) {
@@ -62,25 +63,25 @@ fn read_out(ring: Ring, i: u32, counts: &mut [u64; 28], events: &mut u64) -> Rin
         }
         made = made.ring.act(Action::Read);
         answer = made.answer;
-        text::count_answer(counts, answer);
+        text::count_answer(tally, answer);
         left = left - 1;
     }
     made.ring
 }
 
 // Reading i, with value i.
-fn one_reading(ring: Ring, i: u32, counts: &mut [u64; 28], events: &mut u64) -> Ring {
+fn one_reading(ring: Ring, i: u32, tally: &mut Tally, events: &mut u64) -> Ring {
     let begun = ring.act(Action::Begin(i));
     let answer = begun.answer;
-    text::count_answer(counts, answer);
-    let written = write_out(begun.ring, counts);
-    read_out(written, i, counts, events)
+    text::count_answer(tally, answer);
+    let written = write_out(begun.ring, tally);
+    read_out(written, i, tally, events)
 }
 
-fn all_readings(mut ring: Ring, counts: &mut [u64; 28], events: &mut u64) -> Ring {
+fn all_readings(mut ring: Ring, tally: &mut Tally, events: &mut u64) -> Ring {
     let mut i: u32 = 0;
     while i < READINGS {
-        ring = one_reading(ring, i, counts, events);
+        ring = one_reading(ring, i, tally, events);
         i = i + 1;
     }
     ring
@@ -88,10 +89,10 @@ fn all_readings(mut ring: Ring, counts: &mut [u64; 28], events: &mut u64) -> Rin
 
 pub fn run() {
     text::section(b"65537 readings in stop mode, each written and then read until Empty");
-    let mut counts = [0u64; 28];
+    let mut tally = [0u64; 28];
     let mut events: u64 = 0;
-    let ring = all_readings(fresh(16, 16, Ring::STOP), &mut counts, &mut events);
-    text::tally(&counts);
+    let ring = all_readings(fresh(16, 16, Ring::STOP), &mut tally, &mut events);
+    text::tally(&tally);
     text::number_line(b"Event(i, i)", events);
     text::receipt(ring.receipt());
 }

@@ -1,4 +1,6 @@
 // Digests. The slots' four chains run side by side in one loop, since each fold waits for the one before it.
+ghost use mathlib.Core.Path.{_≡_};
+ghost use Prim.Native.Nat.{_+_, _*_, _%_};
 use ring::Answer;
 use ring::PageNo;
 use ring::Receipt;
@@ -11,18 +13,27 @@ use ring::state::ReaderPhase;
 use ring::state::Size;
 use ring::state::Writer;
 use ring::state::WriterPhase;
+use text::Tally;
+
+const FACTOR: u64 = 1664525;
+
+const TERM: u64 = 1013904223;
+
+const TWO_32: u64 = 4294967296;
 
 // How many slots a chain has: half of the room.
 const CHAIN: usize = 136;
 
-pub fn fold(h: u32, x: u32) -> u32 {
-    let sum = 1664525 * (h as u64) + (x as u64) + 1013904223;
-    (sum % 4294967296) as u32
+fn fold(h: u32, x: u32) -> u32
+    ensures { λ r. ⌜ r ≡ (1664525 * h + x + 1013904223) % 4294967296 ⌝ }
+{
+    let sum = FACTOR * (h as u64) + (x as u64) + TERM;
+    (sum % TWO_32) as u32
 }
 
 fn fold_count(h: u32, count: u64) -> u32 {
-    let low = (count % 4294967296) as u32;
-    let high = (count / 4294967296) as u32;
+    let low = (count % TWO_32) as u32;
+    let high = (count / TWO_32) as u32;
     fold(fold(h, low), high)
 }
 
@@ -33,8 +44,8 @@ fn fold_three(h: u32, x: u32, y: u32, z: u32) -> u32 {
 pub fn fold_answer(h: u32, answer: Answer) -> u32 {
     let numbers = text::answer_numbers(answer);
     // the values are below 2^32: a count that is told stood in shape
-    let first = (numbers.first % 4294967296) as u32;
-    let second = (numbers.second % 4294967296) as u32;
+    let first = (numbers.first % TWO_32) as u32;
+    let second = (numbers.second % TWO_32) as u32;
     fold_three(h, numbers.code, first, second)
 }
 
@@ -165,8 +176,8 @@ pub fn fold_ring(h: u32, ring: Ring) -> u32 {
 }
 
 // The answer and the ring that an action or a set-up gave, and the answer counted.
-pub fn fold_made(h: u32, made: Step, counts: &mut [u64; 28]) -> u32 {
+pub fn fold_made(h: u32, made: Step, tally: &mut Tally) -> u32 {
     let answer = made.answer;
-    text::count_answer(counts, answer);
+    text::count_answer(tally, answer);
     fold_ring(fold_answer(h, answer), made.ring)
 }

@@ -1,10 +1,18 @@
 // The generator: a number that each draw replaces.
-ghost use Prim.Native.Nat.{_+_, _≤_, _<_};
+ghost use mathlib.Core.Path.{_≡_};
+ghost use Prim.Native.Nat.{_+_, _*_, _%_, _≤_, _<_};
+
+const FACTOR: u64 = 48271;
+
+const PRIME: u64 = 2147483647;
 
 // One draw.
-fn draw(s: &mut u32) -> u32 {
-    let product = 48271 * (*s as u64);
-    *s = (product % 2147483647) as u32;
+fn draw(s: &mut u32) -> u32
+    ensures { λ r. ⌜ r ≡ (48271 * now (s .entry)) % 2147483647 ⌝ }
+    ensures { λ r. ⌜ now (s .exit) ≡ r ⌝ }
+{
+    let product = FACTOR * (*s as u64);
+    *s = (product % PRIME) as u32;
     *s
 }
 

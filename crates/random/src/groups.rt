@@ -9,6 +9,7 @@ use crate::states::draw_ring;
 use crate::states::draw_size;
 use ring::Action;
 use ring::Ring;
+use text::Tally;
 
 const SHAPE_GROUPS: u32 = 10;
 
@@ -22,15 +23,15 @@ const OUT_OF_SHAPE: u32 = 1000;
 const FIRST_SEED: u32 = 1000000;
 
 // An action on a state: the answer, the ring and its receipt folded in.
-fn fold_action(h: u32, ring: Ring, action: Action, counts: &mut [u64; 28]) -> u32 {
+fn fold_action(h: u32, ring: Ring, action: Action, tally: &mut Tally) -> u32 {
     let made = ring.act(action);
-    let d = fold_made(h, made, counts);
+    let d = fold_made(h, made, tally);
     let after = made.ring;
     fold_receipt(d, after.receipt())
 }
 
 // A state, in shape where `kind` is 0 and else with that break; its receipt, and then each action on the state itself.
-fn run_state(number: u32, kind: u32, h: u32, counts: &mut [u64; 28]) -> u32
+fn run_state(number: u32, kind: u32, h: u32, tally: &mut Tally) -> u32
     requires { ⌜ number < 71000 ⌝ }
 {
     let mut s = generator(FIRST_SEED + number);
@@ -41,19 +42,19 @@ fn run_state(number: u32, kind: u32, h: u32, counts: &mut [u64; 28]) -> u32
     }
     let value = any(&mut s);
     let mut d = fold_receipt(h, ring.receipt());
-    d = fold_action(d, ring, Action::Begin(value), counts);
-    d = fold_action(d, ring, Action::Write, counts);
-    fold_action(d, ring, Action::Read, counts)
+    d = fold_action(d, ring, Action::Begin(value), tally);
+    d = fold_action(d, ring, Action::Write, tally);
+    fold_action(d, ring, Action::Read, tally)
 }
 
 // The digest of a group's states.
-fn run_group(first: u32, states: u32, kind: u32, counts: &mut [u64; 28]) -> u32
+fn run_group(first: u32, states: u32, kind: u32, tally: &mut Tally) -> u32
     requires { ⌜ first + states ≤ 71000 ⌝ }
 {
     let mut h: u32 = 0;
     let mut i: u32 = 0;
     while i < states {
-        h = run_state(first + i, kind, h, counts);
+        h = run_state(first + i, kind, h, tally);
         i = i + 1;
     }
     h
@@ -64,10 +65,10 @@ fn in_shape_line(group: u32, digest: u32) {
     text::digest_line(b"in shape ", 1 + (group as u64), b"", digest);
 }
 
-fn in_shape(counts: &mut [u64; 28]) {
+fn in_shape(tally: &mut Tally) {
     let mut group: u32 = 0;
     while group < SHAPE_GROUPS {
-        let digest = run_group(group * IN_SHAPE, IN_SHAPE, 0, counts);
+        let digest = run_group(group * IN_SHAPE, IN_SHAPE, 0, tally);
         in_shape_line(group, digest);
         group = group + 1;
     }
@@ -77,21 +78,21 @@ fn break_line(kind: u32, digest: u32) {
     text::digest_line(b"break ", kind as u64, b"", digest);
 }
 
-fn out_of_shape(counts: &mut [u64; 28]) {
+fn out_of_shape(tally: &mut Tally) {
     let mut kind: u32 = 1;
     while kind <= BREAKS {
         let first = SHAPE_GROUPS * IN_SHAPE + (kind - 1) * OUT_OF_SHAPE;
-        let digest = run_group(first, OUT_OF_SHAPE, kind, counts);
+        let digest = run_group(first, OUT_OF_SHAPE, kind, tally);
         break_line(kind, digest);
         kind = kind + 1;
     }
 }
 
 pub fn run() {
-    let mut counts = [0u64; 28];
+    let mut tally = [0u64; 28];
     text::section(b"Random states: each of the three actions on 71000 states");
-    in_shape(&mut counts);
-    out_of_shape(&mut counts);
+    in_shape(&mut tally);
+    out_of_shape(&mut tally);
     text::section(b"Answers to the states");
-    text::tally(&counts);
+    text::tally(&tally);
 }

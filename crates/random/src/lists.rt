@@ -7,6 +7,7 @@ use crate::draws::below;
 use crate::draws::generator;
 use ring::Action;
 use ring::Ring;
+use text::Tally;
 
 const ACTIONS: u32 = 500;
 
@@ -54,19 +55,19 @@ fn draw_action(s: &mut u32, shares: Shares) -> Action {
 }
 
 // A list's generator and the shares of its actions depend on its number. The digest comes back with its answers, rings and receipt folded in.
-fn run_list(number: u32, h: u32, counts: &mut [u64; 28]) -> u32
+fn run_list(number: u32, h: u32, tally: &mut Tally) -> u32
     requires { ⌜ number < 20160 ⌝ }
 {
     let mut s = generator(number + 1);
     let shares = shares_of(number % 3);
     let setup = number / LISTS;
     let mut made = Ring::fresh(2 + setup / 32, 1 + setup % 16, (setup / 16) % 2);
-    let mut d = fold_made(h, made, counts);
+    let mut d = fold_made(h, made, tally);
     let mut left = ACTIONS;
     while left > 0 {
         let action = draw_action(&mut s, shares);
         made = made.ring.act(action);
-        d = fold_made(d, made, counts);
+        d = fold_made(d, made, tally);
         left = left - 1;
     }
     let ring = made.ring;
@@ -74,13 +75,13 @@ fn run_list(number: u32, h: u32, counts: &mut [u64; 28]) -> u32
 }
 
 // The digest of a group's lists.
-fn run_group(group: u32, counts: &mut [u64; 28]) -> u32
+fn run_group(group: u32, tally: &mut Tally) -> u32
     requires { ⌜ group < 30 ⌝ }
 {
     let mut h: u32 = 0;
     let mut i: u32 = 0;
     while i < GROUP {
-        h = run_list(GROUP * group + i, h, counts);
+        h = run_list(GROUP * group + i, h, tally);
         i = i + 1;
     }
     h
@@ -95,19 +96,19 @@ fn group_line(group: u32, digest: u32) {
     }
 }
 
-fn run_groups(counts: &mut [u64; 28]) {
+fn run_groups(tally: &mut Tally) {
     let mut group: u32 = 0;
     while group < GROUPS {
-        let digest = run_group(group, counts);
+        let digest = run_group(group, tally);
         group_line(group, digest);
         group = group + 1;
     }
 }
 
 pub fn run() {
-    let mut counts = [0u64; 28];
+    let mut tally = [0u64; 28];
     text::heading(b"Random lists: 20160 lists of 500 actions, 42 for each set-up");
-    run_groups(&mut counts);
+    run_groups(&mut tally);
     text::section(b"Answers to the lists");
-    text::tally(&counts);
+    text::tally(&tally);
 }

@@ -21,5 +21,6 @@ pub use names::answer;
 pub use put::number;
 pub use put::word;
 pub use receipts::receipt;
+pub use tallies::Tally;
 pub use tallies::count_answer;
 pub use tallies::tally;

@@ -1,4 +1,4 @@
-// How often each kind of answer came: a count for each code.
+// How often each kind of answer came.
 use crate::codes::answer_numbers;
 use crate::names::name;
 use crate::put::end_line;
@@ -8,8 +8,11 @@ use crate::put::word;
 use ring::Answer;
 use std::num::wrapping_add_u64;
 
+// A count for each kind of answer, by its code.
+pub type Tally = [u64; 28];
+
 // One more answer of its kind.
-pub fn count_answer(counts: &mut [u64; 28], answer: Answer) {
+pub fn count_answer(counts: &mut Tally, answer: Answer) {
     let numbers = answer_numbers(answer);
     let code = numbers.code as usize;
     counts[code] = wrapping_add_u64(counts[code], 1);
@@ -28,7 +31,7 @@ fn tally_line(code: u32, count: u64) {
 }
 
 // A line for each kind that came.
-pub fn tally(counts: &[u64; 28]) {
+pub fn tally(counts: &Tally) {
     let mut code: u32 = 0;
     while code < 28 {
         let at = code as usize;

@@ -5,10 +5,10 @@ use Rattle.cases.proofs.many.all_readings.Statement.{statement}
 use Rattle.cases.proofs.many.all_readings.Tie as tie
 
 abbrev Inv-loop : tie.InvT-loop
-Inv-loop ring₀ counts₀ events₀ i₀ ring counts events i = Unit {0}
+Inv-loop ring₀ tally₀ events₀ i₀ ring tally events i = Unit {0}
 
 abbrev μ-loop : tie.MeasureT-loop
-μ-loop ring₀ counts₀ events₀ i₀ ring counts events i = 65537 - i
+μ-loop ring₀ tally₀ events₀ i₀ ring tally events i = 65537 - i
 
 pub all-readings-spec : {M : Type 1} → statement M
 all-readings-spec =

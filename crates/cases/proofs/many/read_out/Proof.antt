@@ -4,10 +4,10 @@ use Rattle.cases.proofs.many.read_out.Statement.{statement}
 use Rattle.cases.proofs.many.read_out.Tie as tie
 
 abbrev Inv-loop : tie.InvT-loop
-Inv-loop i counts₀ events₀ made₀ answer₀ left₀ counts events made answer left = Unit {0}
+Inv-loop i tally₀ events₀ made₀ answer₀ left₀ tally events made answer left = Unit {0}
 
 abbrev μ-loop : tie.MeasureT-loop
-μ-loop i counts₀ events₀ made₀ answer₀ left₀ counts events made answer left = left
+μ-loop i tally₀ events₀ made₀ answer₀ left₀ tally events made answer left = left
 
 pub read-out-spec : {M : Type 1} → statement M
 read-out-spec =

@@ -4,10 +4,10 @@ use Rattle.cases.proofs.many.write_out.Statement.{statement}
 use Rattle.cases.proofs.many.write_out.Tie as tie
 
 abbrev Inv-loop : tie.InvT-loop
-Inv-loop counts₀ made₀ answer₀ left₀ counts made answer left = Unit {0}
+Inv-loop tally₀ made₀ answer₀ left₀ tally made answer left = Unit {0}
 
 abbrev μ-loop : tie.MeasureT-loop
-μ-loop counts₀ made₀ answer₀ left₀ counts made answer left = left
+μ-loop tally₀ made₀ answer₀ left₀ tally made answer left = left
 
 pub write-out-spec : {M : Type 1} → statement M
 write-out-spec =

@@ -5,10 +5,10 @@ use Rattle.random.proofs.groups.in_shape.Statement.{statement}
 use Rattle.random.proofs.groups.in_shape.Tie as tie
 
 abbrev Inv-loop : tie.InvT-loop
-Inv-loop counts₀ group₀ counts group = Unit {0}
+Inv-loop tally₀ group₀ tally group = Unit {0}
 
 abbrev μ-loop : tie.MeasureT-loop
-μ-loop counts₀ group₀ counts group = 10 - group
+μ-loop tally₀ group₀ tally group = 10 - group
 
 pub in-shape-spec : {M : Type 1} → statement M
 in-shape-spec =

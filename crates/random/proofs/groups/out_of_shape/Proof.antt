@@ -5,10 +5,10 @@ use Rattle.random.proofs.groups.out_of_shape.Statement.{statement}
 use Rattle.random.proofs.groups.out_of_shape.Tie as tie
 
 abbrev Inv-loop : tie.InvT-loop
-Inv-loop counts₀ kind₀ counts kind = 1 ≤ kind
+Inv-loop tally₀ kind₀ tally kind = 1 ≤ kind
 
 abbrev μ-loop : tie.MeasureT-loop
-μ-loop counts₀ kind₀ counts kind = 32 - kind
+μ-loop tally₀ kind₀ tally kind = 32 - kind
 
 pub out-of-shape-spec : {M : Type 1} → statement M
 out-of-shape-spec =

@@ -5,10 +5,10 @@ use Rattle.random.proofs.groups.run_group.Statement.{statement}
 use Rattle.random.proofs.groups.run_group.Tie as tie
 
 abbrev Inv-loop : tie.InvT-loop
-Inv-loop first states kind counts₀ h₀ i₀ counts h i = Unit {0}
+Inv-loop first states kind tally₀ h₀ i₀ tally h i = Unit {0}
 
 abbrev μ-loop : tie.MeasureT-loop
-μ-loop first states kind counts₀ h₀ i₀ counts h i = states - i
+μ-loop first states kind tally₀ h₀ i₀ tally h i = states - i
 
 pub run-group-spec : {M : Type 1} → statement M
 run-group-spec =

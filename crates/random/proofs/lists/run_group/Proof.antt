@@ -5,10 +5,10 @@ use Rattle.random.proofs.lists.run_group.Statement.{statement}
 use Rattle.random.proofs.lists.run_group.Tie as tie
 
 abbrev Inv-loop : tie.InvT-loop
-Inv-loop group counts₀ h₀ i₀ counts h i = Unit {0}
+Inv-loop group tally₀ h₀ i₀ tally h i = Unit {0}
 
 abbrev μ-loop : tie.MeasureT-loop
-μ-loop group counts₀ h₀ i₀ counts h i = 672 - i
+μ-loop group tally₀ h₀ i₀ tally h i = 672 - i
 
 pub run-group-spec : {M : Type 1} → statement M
 run-group-spec =

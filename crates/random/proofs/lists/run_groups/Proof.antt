@@ -5,10 +5,10 @@ use Rattle.random.proofs.lists.run_groups.Statement.{statement}
 use Rattle.random.proofs.lists.run_groups.Tie as tie
 
 abbrev Inv-loop : tie.InvT-loop
-Inv-loop counts₀ group₀ counts group = Unit {0}
+Inv-loop tally₀ group₀ tally group = Unit {0}
 
 abbrev μ-loop : tie.MeasureT-loop
-μ-loop counts₀ group₀ counts group = 30 - group
+μ-loop tally₀ group₀ tally group = 30 - group
 
 pub run-groups-spec : {M : Type 1} → statement M
 run-groups-spec =

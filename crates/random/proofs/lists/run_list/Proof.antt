@@ -4,10 +4,10 @@ use Rattle.random.proofs.lists.run_list.Statement.{statement}
 use Rattle.random.proofs.lists.run_list.Tie as tie
 
 abbrev Inv-loop : tie.InvT-loop
-Inv-loop number h counts₀ s₀ shares setup made₀ d₀ left₀ counts s made d left = Unit {0}
+Inv-loop number h tally₀ s₀ shares setup made₀ d₀ left₀ tally s made d left = Unit {0}
 
 abbrev μ-loop : tie.MeasureT-loop
-μ-loop number h counts₀ s₀ shares setup made₀ d₀ left₀ counts s made d left = left
+μ-loop number h tally₀ s₀ shares setup made₀ d₀ left₀ tally s made d left = left
 
 pub run-list-spec : {M : Type 1} → statement M
 run-list-spec =
