@@ -298,7 +298,7 @@ fn many_readings(out: &mut String) -> Result<(), String> {
     let mut tally = Tally::default();
     let mut events = 0;
     for i in 0..READINGS {
-        tally.count(ring.begin(i));
+        tally.count(ring.act(Begin(i)));
         until_written(&mut ring, &mut tally)?;
         events += until_empty(&mut ring, &mut tally, i)?;
     }
@@ -316,7 +316,7 @@ const STEPS: u32 = 1000;
 /// "Writes until the answer is Committed or Dropped".
 fn until_written(ring: &mut Ring, tally: &mut Tally) -> Result<(), String> {
     for _ in 0..STEPS {
-        let answer = ring.write();
+        let answer = ring.act(Write);
         tally.count(answer);
         if matches!(answer, Answer::Committed(_) | Answer::Dropped) {
             return Ok(());
@@ -329,7 +329,7 @@ fn until_written(ring: &mut Ring, tally: &mut Tally) -> Result<(), String> {
 fn until_empty(ring: &mut Ring, tally: &mut Tally, i: u32) -> Result<u64, String> {
     let mut events = 0;
     for _ in 0..STEPS {
-        let answer = ring.read();
+        let answer = ring.act(Read);
         tally.count(answer);
         if answer == Answer::Event(i, i) {
             events += 1;

@@ -274,8 +274,16 @@ impl Ring {
             && self.taken + self.dropped <= self.begun
     }
 
-    /// Any of the three actions.
+    /// Any of the three actions. Refusal 1: "an action ... on a state not in shape".
     pub fn act(&mut self, action: Action) -> Answer {
+        if !self.in_shape() {
+            return Answer::Refused(Refusal::Shape);
+        }
+        self.act_in_shape(action)
+    }
+
+    /// The same on a ring that is known to be in shape.
+    pub fn act_in_shape(&mut self, action: Action) -> Answer {
         match action {
             Action::Begin(value) => self.begin(value),
             Action::Write => self.write(),
@@ -284,11 +292,8 @@ impl Ring {
     }
 
     /// "Begin(v): begun + 1, a new record on top in phase WANT. Answer Begun(new
-    /// depth)." Refusals: "1 before all, 2 before 4".
-    pub fn begin(&mut self, value: u32) -> Answer {
-        if !self.in_shape() {
-            return Answer::Refused(Refusal::Shape);
-        }
+    /// depth)." Refusals: "2 before 4".
+    fn begin(&mut self, value: u32) -> Answer {
         if self.depth == 4 {
             return Answer::Refused(Refusal::Depth);
         }
@@ -305,10 +310,7 @@ impl Ring {
     }
 
     /// "Write moves the top record by one step."
-    pub fn write(&mut self) -> Answer {
-        if !self.in_shape() {
-            return Answer::Refused(Refusal::Shape);
-        }
+    fn write(&mut self) -> Answer {
         if self.depth == 0 {
             return Answer::Refused(Refusal::Nobody);
         }
@@ -471,10 +473,7 @@ impl Ring {
     }
 
     /// "Read" in its three phases.
-    pub fn read(&mut self) -> Answer {
-        if !self.in_shape() {
-            return Answer::Refused(Refusal::Shape);
-        }
+    fn read(&mut self) -> Answer {
         match self.reader {
             Reader::Idle => self.idle(),
             Reader::Found { p, h } => self.found(p, h),

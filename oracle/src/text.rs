@@ -36,13 +36,13 @@ const NAMES: [&str; 28] = [
 
 /// What each count of a receipt is called and what it is of.
 const COUNTS: [(&str, &str); 7] = [
-    ("begun", "readings that writers began"),
-    ("taken", "of them given a number and a place in the ring"),
-    ("handed", "of those read out"),
-    ("overwritten", "of those lost to newer readings"),
-    ("dropped", "begun, and lost for want of room"),
-    ("waiting", "committed and not read out yet"),
-    ("open", "given a place and not committed yet"),
+    ("begun", "readings begun"),
+    ("taken", "of these, given a number and a place in the ring"),
+    ("handed", "of those taken, handed out"),
+    ("overwritten", "of those taken, lost to newer readings"),
+    ("dropped", "of those begun, lost for want of room"),
+    ("waiting", "of those taken, committed and to be handed out"),
+    ("open", "of those taken, not committed yet"),
 ];
 
 /// "Refusals by number".

@@ -44,20 +44,20 @@ fn handed_line(handed: u64, begun: u64, complete: bool) {
 // The receipt; a refused one has its zeros.
 pub fn receipt(r: Receipt) {
     receipt_heading(r.refusal);
-    count_line(b"begun", r.begun, b"readings that writers began");
+    count_line(b"begun", r.begun, b"readings begun");
     count_line(
         b"taken",
         r.taken,
-        b"of them given a number and a place in the ring",
+        b"of these, given a number and a place in the ring",
     );
-    count_line(b"handed", r.handed, b"of those read out");
+    count_line(b"handed", r.handed, b"of those taken, handed out");
     count_line(
         b"overwritten",
         r.overwritten,
-        b"of those lost to newer readings",
+        b"of those taken, lost to newer readings",
     );
-    count_line(b"dropped", r.dropped, b"begun, and lost for want of room");
-    count_line(b"waiting", r.waiting, b"committed and not read out yet");
-    count_line(b"open", r.open, b"given a place and not committed yet");
+    count_line(b"dropped", r.dropped, b"of those begun, lost for want of room");
+    count_line(b"waiting", r.waiting, b"of those taken, committed and to be handed out");
+    count_line(b"open", r.open, b"of those taken, not committed yet");
     handed_line(r.handed, r.begun, r.complete);
 }

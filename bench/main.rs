@@ -1,0 +1,112 @@
+//! Times an action of the proved ring against the same loop in Rust, in one run: the rows take turns in each round, so that a slow moment of the
+//! machine falls on all of them. Prints the least and the median of the rounds, in nanoseconds an action, and each row's ratio to Rust with the test.
+
+#[path = "../oracle/src/ring.rs"]
+#[allow(dead_code)]
+mod ring;
+
+use ring::{Action, Answer, Ring};
+use std::hint::black_box;
+use std::time::Instant;
+
+extern "C" {
+    /// crates/bench: the loop by the methods, and by `Ring::act`; how many readings it handed out.
+    fn bench_by_methods(actions: u32) -> u64;
+    fn bench_by_act(actions: u32) -> u64;
+}
+
+const ACTIONS: u32 = 2_000_000;
+const ROUNDS: usize = 15;
+
+/// A Write while a writer is at work, then Reads until nothing waits, then a Begin.
+fn next_action(ring: &Ring, value: u32) -> Action {
+    if ring.depth > 0 {
+        Action::Write
+    } else if ring.handed < ring.committed {
+        Action::Read
+    } else {
+        Action::Begin(value)
+    }
+}
+
+/// The loop of crates/bench in place: 16 pages of 16 slots in stop mode.
+fn in_place(actions: u32, act: impl Fn(&mut Ring, Action) -> Answer) -> u64 {
+    let (mut ring, _) = Ring::fresh(16, 16, 1);
+    for i in 0..actions {
+        let action = next_action(&ring, i);
+        act(&mut ring, action);
+    }
+    ring.handed
+}
+
+fn rust_tested(actions: u32) -> u64 {
+    in_place(actions, Ring::act)
+}
+
+fn rust_untested(actions: u32) -> u64 {
+    in_place(actions, Ring::act_in_shape)
+}
+
+fn rattle_methods(actions: u32) -> u64 {
+    // SAFETY: a function of numbers, proved for every argument.
+    unsafe { bench_by_methods(actions) }
+}
+
+fn rattle_act(actions: u32) -> u64 {
+    // SAFETY: as above.
+    unsafe { bench_by_act(actions) }
+}
+
+struct Row {
+    name: &'static str,
+    run: fn(u32) -> u64,
+    times: Vec<f64>,
+}
+
+fn row(name: &'static str, run: fn(u32) -> u64) -> Row {
+    Row {
+        name,
+        run,
+        times: Vec::new(),
+    }
+}
+
+/// One turn of a row: nanoseconds an action, and how many readings were handed out.
+fn turn(run: fn(u32) -> u64) -> (f64, u64) {
+    let start = Instant::now();
+    let handed = run(black_box(ACTIONS));
+    (start.elapsed().as_nanos() as f64 / f64::from(ACTIONS), handed)
+}
+
+fn main() {
+    // the second row is the one that the ratios are to
+    let mut rows = [
+        row("Rust, in place, no test of shape", rust_untested),
+        row("Rust, in place, shape tested", rust_tested),
+        row("Rattle, by value, the methods", rattle_methods),
+        row("Rattle, by value, Ring::act", rattle_act),
+    ];
+    for _ in 0..ROUNDS {
+        let mut seen = Vec::new();
+        for row in &mut rows {
+            let (time, handed) = turn(row.run);
+            row.times.push(time);
+            seen.push(handed);
+        }
+        if seen.iter().any(|&handed| handed != seen[0]) {
+            eprintln!("bench: the rows did not do the same work: {seen:?} readings handed out");
+            std::process::exit(1);
+        }
+    }
+    for row in &mut rows {
+        row.times.sort_by(f64::total_cmp);
+    }
+    let least = rows[1].times[0];
+    let median = rows[1].times[ROUNDS / 2];
+    println!("{ACTIONS} actions a round, {ROUNDS} rounds, the rows in turn; nanoseconds an action, and the ratio to Rust with the test");
+    println!("{:<34}{:>8}{:>8}{:>8}{:>8}", "", "least", "ratio", "median", "ratio");
+    for row in &rows {
+        let (a, b) = (row.times[0], row.times[ROUNDS / 2]);
+        println!("{:<34}{a:>8.1}{:>8.2}{b:>8.1}{:>8.2}", row.name, a / least, b / median);
+    }
+}

@@ -1,0 +1,47 @@
+-- `bench_by_act` makes the actions of the definition: after i turns the step is that of the first i actions. Assumes nothing.
+use mathlib.Core.Path.{_≡_, ap, _∙_}
+use Prim.Native.Nat.{_-_, _≤_}
+use native.Mathlib.Omega.{arith}
+use borrow.Author.Needs.{needs}
+use Rattle.ring.specs.Answers.{Outcome, outcome}
+use Rattle.ring.specs.Act.{act}
+use Rattle.bench.specs.Loop.{ran}
+use Rattle.bench.proofs.Loop.{ran-next}
+use Rattle.bench.proofs.bench_by_act.Statement.{statement}
+use Rattle.bench.proofs.bench_by_act.Tie as tie
+
+abbrev Inv-loop : tie.InvT-loop
+Inv-loop actions s₀ i₀ s i = (i ≤ actions) × (outcome s ≡ ran i)
+
+abbrev μ-loop : tie.MeasureT-loop
+μ-loop actions s₀ i₀ s i = actions - i
+
+loop-holds : tie.Need-loop-holds Inv-loop μ-loop
+unfolding ran
+loop-holds c = (omega arith, c .fresh .ensures)
+
+loop-again : tie.Need-loop-again Inv-loop μ-loop
+loop-again c =
+    let l = c .before .before .before .loop in
+    (omega arith, ran-next (l .i) (l .inv .1) (c .act .ensures ∙ ap (act (l .s .ring)) (c .before .next-action .ensures)))
+
+returns : tie.Need-returns Inv-loop μ-loop
+returns c =
+    let l = c .before .loop in
+    let done : l .i ≡ c .before .before .before .args .actions = omega arith in
+    ap (λ (q : Outcome). q .ring .counts .handed) (l .inv .1 ∙ ap ran done)
+
+pub bench-by-act-spec : {M : Type 1} → statement M
+bench-by-act-spec =
+    tie.close
+    (tie.spec
+    Inv-loop
+    μ-loop
+    (λ c κs. search needs)
+    loop-holds
+    (λ c κs. search needs)
+    (λ c κs. search needs)
+    (λ c. omega arith)
+    (λ c. omega arith)
+    loop-again
+    returns)

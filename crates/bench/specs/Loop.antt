@@ -1,0 +1,27 @@
+-- The timed loop: readings in stop mode, each written and then read, an action at a time.
+-- Assumes nothing.
+use mathlib.Core.Bool.{cond}
+use Prim.Native.Nat.{ℕ, zero, suc}
+use lib.Dec.{ltb}
+use Rattle.ring.specs.Answers.{Outcome}
+use Rattle.ring.specs.SetUp.{freshRule}
+use Rattle.ring.specs.Act.{act}
+use Rattle.ring.specs.declared.state.Action.{Action}
+use Rattle.ring.specs.declared.state.Action.the-variants.{Begin, Write, Read}
+use Rattle.ring.specs.declared.state.Ring.{Ring}
+
+-- a Write while a writer is at work, then Reads until nothing waits, then a Begin
+abbrev pub nextAction : ℕ → ℕ → ℕ → ℕ → Action
+nextAction depth handed committed value = cond (ltb 0 depth) Write (cond (ltb handed committed) Read (Begin value))
+
+abbrev pub nextOn : Ring → ℕ → Outcome
+nextOn r i = act r (nextAction (r .depth) (r .counts .handed) (r .counts .committed) i)
+
+-- the outcome of the first k actions
+unfoldable pub ran : ℕ → Outcome
+ran zero = freshRule 16 16 1
+ran (suc k) = nextOn (ran k .ring) k
+
+-- how many readings they hand out
+abbrev pub handedAfter : ℕ → ℕ
+handedAfter k = ran k .ring .counts .handed
