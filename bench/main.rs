@@ -7,6 +7,8 @@ mod ring;
 
 use ring::{Action, Answer, Ring};
 use std::hint::black_box;
+use std::io::{self, Write};
+use std::process::ExitCode;
 use std::time::Instant;
 
 extern "C" {
@@ -78,35 +80,66 @@ fn turn(run: fn(u32) -> u64) -> (f64, u64) {
     (start.elapsed().as_nanos() as f64 / f64::from(ACTIONS), handed)
 }
 
-fn main() {
-    // the second row is the one that the ratios are to
+/// Every row in turn, round after round; refused where the rows did not do the same work.
+fn measure(rows: &mut [Row]) -> Result<(), String> {
+    for _ in 0..ROUNDS {
+        let mut seen = Vec::new();
+        for row in rows.iter_mut() {
+            let (time, handed) = turn(row.run);
+            row.times.push(time);
+            seen.push(handed);
+        }
+        if seen.iter().any(|&handed| handed != seen[0]) {
+            return Err(format!("the rows handed out {seen:?} readings"));
+        }
+    }
+    for row in rows.iter_mut() {
+        row.times.sort_by(f64::total_cmp);
+    }
+    Ok(())
+}
+
+/// The table; the ratios are to row `base`.
+fn table(rows: &[Row], base: usize) -> String {
+    let ends = |row: &Row| (row.times[0], row.times[ROUNDS / 2]);
+    let (least, median) = ends(&rows[base]);
+    let mut text = format!(
+        "{ACTIONS} actions a round, {ROUNDS} rounds, the rows in turn; nanoseconds an action, and the ratio to '{}'\n",
+        rows[base].name
+    );
+    text += &format!("{:<34}{:>8}{:>8}{:>8}{:>8}\n", "", "least", "ratio", "median", "ratio");
+    for row in rows {
+        let (a, b) = ends(row);
+        text += &format!(
+            "{:<34}{a:>8.1}{:>8.2}{b:>8.1}{:>8.2}\n",
+            row.name,
+            a / least,
+            b / median
+        );
+    }
+    text
+}
+
+fn run() -> Result<(), String> {
     let mut rows = [
         row("Rust, in place, no test of shape", rust_untested),
         row("Rust, in place, shape tested", rust_tested),
         row("Rattle, by value, the methods", rattle_methods),
         row("Rattle, by value, Ring::act", rattle_act),
     ];
-    for _ in 0..ROUNDS {
-        let mut seen = Vec::new();
-        for row in &mut rows {
-            let (time, handed) = turn(row.run);
-            row.times.push(time);
-            seen.push(handed);
+    measure(&mut rows)?;
+    let text = table(&rows, 1);
+    io::stdout()
+        .write_all(text.as_bytes())
+        .map_err(|error| format!("standard output: {error}"))
+}
+
+fn main() -> ExitCode {
+    match run() {
+        Ok(()) => ExitCode::SUCCESS,
+        Err(why) => {
+            eprintln!("bench: {why}");
+            ExitCode::FAILURE
         }
-        if seen.iter().any(|&handed| handed != seen[0]) {
-            eprintln!("bench: the rows did not do the same work: {seen:?} readings handed out");
-            std::process::exit(1);
-        }
-    }
-    for row in &mut rows {
-        row.times.sort_by(f64::total_cmp);
-    }
-    let least = rows[1].times[0];
-    let median = rows[1].times[ROUNDS / 2];
-    println!("{ACTIONS} actions a round, {ROUNDS} rounds, the rows in turn; nanoseconds an action, and the ratio to Rust with the test");
-    println!("{:<34}{:>8}{:>8}{:>8}{:>8}", "", "least", "ratio", "median", "ratio");
-    for row in &rows {
-        let (a, b) = (row.times[0], row.times[ROUNDS / 2]);
-        println!("{:<34}{a:>8.1}{:>8.2}{b:>8.1}{:>8.2}", row.name, a / least, b / median);
     }
 }

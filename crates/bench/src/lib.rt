@@ -47,7 +47,12 @@ pub extern "C" fn bench_by_act(actions: u32) -> u64
     let mut s = Ring::fresh(Ring::MOST_PAGES, Ring::MOST_SLOTS, Ring::STOP);
     let mut i: u32 = 0;
     while i < actions {
-        let action = next_action(s.ring.depth, s.ring.counts.handed, s.ring.counts.committed, i);
+        let action = next_action(
+            s.ring.depth,
+            s.ring.counts.handed,
+            s.ring.counts.committed,
+            i,
+        );
         s = s.ring.act(action);
         i = i + 1;
     }

@@ -56,8 +56,16 @@ pub fn receipt(r: Receipt) {
         r.overwritten,
         b"of those taken, lost to newer readings",
     );
-    count_line(b"dropped", r.dropped, b"of those begun, lost for want of room");
-    count_line(b"waiting", r.waiting, b"of those taken, committed and to be handed out");
+    count_line(
+        b"dropped",
+        r.dropped,
+        b"of those begun, lost for want of room",
+    );
+    count_line(
+        b"waiting",
+        r.waiting,
+        b"of those taken, committed and to be handed out",
+    );
     count_line(b"open", r.open, b"of those taken, not committed yet");
     handed_line(r.handed, r.begun, r.complete);
 }
