@@ -87,7 +87,7 @@ fn all_readings(mut ring: Ring, tally: &mut Tally, events: &mut u64) -> Ring {
     ring
 }
 
-pub fn run() {
+pub(crate) fn run() {
     text::section(b"65537 readings in stop mode, each written and then read until Empty");
     let mut tally = [0u64; 28];
     let mut events: u64 = 0;

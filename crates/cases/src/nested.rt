@@ -45,7 +45,7 @@ fn k11() {
     text::receipt(ring.receipt());
 }
 
-pub fn run() {
+pub(crate) fn run() {
     k9();
     k10();
     k11();

@@ -26,7 +26,7 @@ fn out_of_shape() {
     text::receipt(ring.receipt());
 }
 
-pub fn run() {
+pub(crate) fn run() {
     k12();
     out_of_shape();
 }

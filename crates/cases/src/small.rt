@@ -78,7 +78,7 @@ fn k8(mut ring: Ring) {
     text::receipt(ring.receipt());
 }
 
-pub fn run() {
+pub(crate) fn run() {
     let mut ring = k1();
     ring = k2(ring);
     ring = k3(ring);

@@ -10,28 +10,28 @@ fn step(ring: Ring, action: Action) -> Ring {
     made.ring
 }
 
-pub fn begin(ring: Ring, value: u32) -> Ring {
+pub(crate) fn begin(ring: Ring, value: u32) -> Ring {
     step(ring, Action::Begin(value))
 }
 
-pub fn write(ring: Ring) -> Ring {
+pub(crate) fn write(ring: Ring) -> Ring {
     step(ring, Action::Write)
 }
 
-pub fn read(ring: Ring) -> Ring {
+pub(crate) fn read(ring: Ring) -> Ring {
     step(ring, Action::Read)
 }
 
-pub fn three_writes(ring: Ring) -> Ring {
+pub(crate) fn three_writes(ring: Ring) -> Ring {
     write(write(write(ring)))
 }
 
-pub fn five_writes(ring: Ring) -> Ring {
+pub(crate) fn five_writes(ring: Ring) -> Ring {
     write(write(three_writes(ring)))
 }
 
 // A set-up and its line; the ring that it gives.
-pub fn fresh(pages: u32, slots: u32, mode: u32) -> Ring {
+pub(crate) fn fresh(pages: u32, slots: u32, mode: u32) -> Ring {
     let made = Ring::fresh(pages, slots, mode);
     let answer = made.answer;
     text::fresh_line(pages, slots, mode, answer);
@@ -39,6 +39,6 @@ pub fn fresh(pages: u32, slots: u32, mode: u32) -> Ring {
 }
 
 // The paper's small ring: two pages of one slot, in overwrite mode.
-pub fn small_ring() -> Ring {
+pub(crate) fn small_ring() -> Ring {
     fresh(2, 1, Ring::OVERWRITE)
 }

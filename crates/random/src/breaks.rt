@@ -195,7 +195,7 @@ fn break_sums(kind: u32, mut c: Counts) -> Counts {
 }
 
 // Which part of the ring a break is of.
-pub fn break_ring(s: &mut u32, kind: u32, n: u32, slots: u32, mut ring: Ring) -> Ring
+pub(crate) fn break_ring(s: &mut u32, kind: u32, n: u32, slots: u32, mut ring: Ring) -> Ring
     requires { ⌜ (n ≤ 16) × (1 ≤ slots) × (slots ≤ 16) ⌝ }
 {
     match kind {

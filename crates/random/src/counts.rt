@@ -59,7 +59,7 @@ fn all_committed(s: &mut u32) -> Counts {
     }
 }
 
-pub fn draw_counts(s: &mut u32) -> Counts {
+pub(crate) fn draw_counts(s: &mut u32) -> Counts {
     match below(s, 4) {
         0 => small(s),
         1 => near_the_limit(s),

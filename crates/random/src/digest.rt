@@ -41,7 +41,7 @@ fn fold_three(h: u32, x: u32, y: u32, z: u32) -> u32 {
     fold(fold(fold(h, x), y), z)
 }
 
-pub fn fold_answer(h: u32, answer: Answer) -> u32 {
+pub(crate) fn fold_answer(h: u32, answer: Answer) -> u32 {
     let numbers = text::answer_numbers(answer);
     // the values are below 2^32: a count that is told stood in shape
     let first = (numbers.first % TWO_32) as u32;
@@ -49,7 +49,7 @@ pub fn fold_answer(h: u32, answer: Answer) -> u32 {
     fold_three(h, numbers.code, first, second)
 }
 
-pub fn fold_receipt(h: u32, r: Receipt) -> u32 {
+pub(crate) fn fold_receipt(h: u32, r: Receipt) -> u32 {
     let mut d = fold(h, r.refusal);
     d = fold_count(d, r.begun);
     d = fold_count(d, r.taken);
@@ -164,7 +164,7 @@ fn fold_slots<'a>(h: u32, numbers: &'a [u32; 272], values: &'a [u32; 272]) -> u3
     fold(fold_three(h, a, b, c), d)
 }
 
-pub fn fold_ring(h: u32, ring: Ring) -> u32 {
+pub(crate) fn fold_ring(h: u32, ring: Ring) -> u32 {
     let size = ring.size;
     let places = ring.places;
     let counts = ring.counts;
@@ -176,7 +176,7 @@ pub fn fold_ring(h: u32, ring: Ring) -> u32 {
 }
 
 // The answer and the ring that an action or a set-up gave, and the answer counted.
-pub fn fold_made(h: u32, made: Step, tally: &mut Tally) -> u32 {
+pub(crate) fn fold_made(h: u32, made: Step, tally: &mut Tally) -> u32 {
     let answer = made.answer;
     text::count_answer(tally, answer);
     fold_ring(fold_answer(h, answer), made.ring)

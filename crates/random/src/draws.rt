@@ -17,7 +17,7 @@ fn draw(s: &mut u32) -> u32
 }
 
 // The generator for a seed, with its first three draws thrown away.
-pub fn generator(seed: u32) -> u32 {
+pub(crate) fn generator(seed: u32) -> u32 {
     let mut s = seed;
     draw(&mut s);
     draw(&mut s);
@@ -25,7 +25,7 @@ pub fn generator(seed: u32) -> u32 {
     s
 }
 
-pub fn below(s: &mut u32, n: u32) -> u32
+pub(crate) fn below(s: &mut u32, n: u32) -> u32
     requires { ⌜ 0 < n ⌝ }
     ensures { λ r. ⌜ r < n ⌝ }
 {
@@ -33,14 +33,14 @@ pub fn below(s: &mut u32, n: u32) -> u32
 }
 
 // Any 32-bit number.
-pub fn any(s: &mut u32) -> u32 {
+pub(crate) fn any(s: &mut u32) -> u32 {
     let high = below(s, 65536);
     let low = below(s, 65536);
     65536 * high + low
 }
 
 // How far a number goes past its limit.
-pub fn excess(s: &mut u32) -> u32
+pub(crate) fn excess(s: &mut u32) -> u32
     ensures { λ r. ⌜ r ≤ 1000000 ⌝ }
 {
     if below(s, 2) == 0 {
@@ -50,7 +50,7 @@ pub fn excess(s: &mut u32) -> u32
 }
 
 // x, or a number above it.
-pub fn over(s: &mut u32, x: u32) -> u32
+pub(crate) fn over(s: &mut u32, x: u32) -> u32
     requires { ⌜ x ≤ 17 ⌝ }
     ensures { λ r. ⌜ r ≤ x + 1000000 ⌝ }
 {
@@ -58,7 +58,7 @@ pub fn over(s: &mut u32, x: u32) -> u32
 }
 
 // A page of a ring of n pages and its reader page.
-pub fn page(s: &mut u32, n: u32) -> u32
+pub(crate) fn page(s: &mut u32, n: u32) -> u32
     requires { ⌜ n ≤ 16 ⌝ }
     ensures { λ r. ⌜ r ≤ n ⌝ }
 {
@@ -66,7 +66,7 @@ pub fn page(s: &mut u32, n: u32) -> u32
 }
 
 // A number over every page's.
-pub fn no_page(s: &mut u32, n: u32) -> u32
+pub(crate) fn no_page(s: &mut u32, n: u32) -> u32
     requires { ⌜ n ≤ 16 ⌝ }
     ensures { λ r. ⌜ r ≤ 1000017 ⌝ }
 {

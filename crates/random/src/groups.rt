@@ -88,7 +88,7 @@ fn out_of_shape(tally: &mut Tally) {
     }
 }
 
-pub fn run() {
+pub(crate) fn run() {
     let mut tally = [0u64; 28];
     text::section(b"Random states: each of the three actions on 71000 states");
     in_shape(&mut tally);

@@ -105,7 +105,7 @@ fn run_groups(tally: &mut Tally) {
     }
 }
 
-pub fn run() {
+pub(crate) fn run() {
     let mut tally = [0u64; 28];
     text::heading(b"Random lists: 20160 lists of 500 actions, 42 for each set-up");
     run_groups(&mut tally);

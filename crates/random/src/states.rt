@@ -11,7 +11,7 @@ use ring::Ring;
 use ring::state::Places;
 use ring::state::Size;
 
-pub fn draw_size(s: &mut u32) -> Size
+pub(crate) fn draw_size(s: &mut u32) -> Size
     ensures { λ r. ⌜ (r .pages ≤ 16) × (1 ≤ r .slots) × (r .slots ≤ 16) ⌝ }
 {
     let pages = 2 + below(s, 15);
@@ -110,7 +110,7 @@ fn draw_slots(s: &mut u32, mut ring: Ring) -> Ring {
 }
 
 // A state in shape with this set-up.
-pub fn draw_ring(s: &mut u32, size: Size) -> Ring
+pub(crate) fn draw_ring(s: &mut u32, size: Size) -> Ring
     requires { ⌜ (size .pages ≤ 16) × (1 ≤ size .slots) × (size .slots ≤ 16) ⌝ }
 {
     let n = size.pages;

@@ -17,7 +17,7 @@ pub struct PhaseDraw {
     pub own: bool,
 }
 
-pub fn writer_phase(d: PhaseDraw) -> WriterPhase {
+pub(crate) fn writer_phase(d: PhaseDraw) -> WriterPhase {
     let t = PageNo(d.first);
     let n = PageNo(d.second);
     let code = d.code;
@@ -32,7 +32,7 @@ pub fn writer_phase(d: PhaseDraw) -> WriterPhase {
     }
 }
 
-pub fn reader_phase(code: u32, p: u32, h: u32) -> ReaderPhase {
+pub(crate) fn reader_phase(code: u32, p: u32, h: u32) -> ReaderPhase {
     match code {
         0 => ReaderPhase::Idle,
         1 => ReaderPhase::Found(PageNo(p), PageNo(h)),
@@ -102,7 +102,13 @@ fn draw_phase(s: &mut u32, n: u32, slots: u32, is_inside: bool, words: &[u32; 17
     writer_phase(d)
 }
 
-pub fn draw_stack(s: &mut u32, n: u32, slots: u32, depth: u32, words: &[u32; 17]) -> [Writer; 4]
+pub(crate) fn draw_stack(
+    s: &mut u32,
+    n: u32,
+    slots: u32,
+    depth: u32,
+    words: &[u32; 17],
+) -> [Writer; 4]
     requires { ⌜ (n ≤ 16) × (1 ≤ slots) ⌝ }
 {
     let nobody = Writer {
@@ -121,7 +127,7 @@ pub fn draw_stack(s: &mut u32, n: u32, slots: u32, depth: u32, words: &[u32; 17]
     stack
 }
 
-pub fn draw_reader(s: &mut u32, n: u32, words: &[u32; 17]) -> Reader
+pub(crate) fn draw_reader(s: &mut u32, n: u32, words: &[u32; 17]) -> Reader
     requires { ⌜ n ≤ 16 ⌝ }
 {
     let code = below(s, 3);
