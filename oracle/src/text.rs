@@ -36,13 +36,13 @@ const NAMES: [&str; 28] = [
 
 /// What each count of a receipt is called and what it is of.
 const COUNTS: [(&str, &str); 7] = [
-    ("begun", "readings begun"),
-    ("taken", "of these, given a number and a place in the ring"),
+    ("begun", "readings begun: taken, dropped, or still to be given a place"),
+    ("taken", "given a number and a place in the ring"),
     ("handed", "of those taken, handed out"),
     ("overwritten", "of those taken, lost to newer readings"),
-    ("dropped", "of those begun, lost for want of room"),
-    ("waiting", "of those taken, committed and to be handed out"),
-    ("open", "of those taken, not committed yet"),
+    ("dropped", "never taken, lost for want of room"),
+    ("waiting", "of those taken, finished and to be handed out"),
+    ("open", "of those taken, not finished yet"),
 ];
 
 /// "Refusals by number".
