@@ -187,17 +187,17 @@ impl History {
     }
 
     /// "An overwriting is a Write answered Marked; it takes page n, and the pages
-    /// are judged as they stand just before it." It takes the oldest ring page, full
-    /// and all of it committed. "A Marked makes its writer the writer of that update
-    /// mark."
+    /// are judged as they stand just before it." It takes the oldest ring page, all
+    /// of it committed, and every ring page was full: "full is used = S". "A Marked
+    /// makes its writer the writer of that update mark."
     fn marked(&mut self, before: &Ring, writer: usize) -> Result<(), String> {
         let Some(Phase::Mark { t, n }) = top_phase(before) else {
             return Err("Marked, and the top record was not in MARK".to_string());
         };
         must(n != before.reader_page, "the page taken is not a ring page")?;
         must(
-            before.used[n as usize] == before.s,
-            "the page taken was not full",
+            ring_pages(before).all(|page| before.used[page as usize] == before.s),
+            "a page was taken, and not every ring page was full",
         )?;
         must(
             oldest_page(before) == Some(n),
@@ -226,6 +226,10 @@ impl History {
     /// All that demand 3 says of the ring as it stands.
     pub fn holds(&mut self, ring: &Ring) -> Result<(), String> {
         must(ring.in_shape(), "the ring is out of shape")?;
+        must(
+            self.at_work.len() == ring.depth as usize,
+            "the writers at work are not as many as the records",
+        )?;
         self.places(ring)?;
         links(ring)?;
         self.marks(ring)
@@ -257,7 +261,8 @@ impl History {
     }
 
     /// Every numbered reading is in exactly one of the four places, each told for
-    /// itself, and the receipt's counts are the places' sizes.
+    /// itself; those not yet committed are above all others; and the receipt's
+    /// counts are the places' sizes.
     fn places(&mut self, ring: &Ring) -> Result<(), String> {
         self.find(ring);
         let (mut handed, mut overwritten, mut open, mut waiting) = (0, 0, 0, 0);
@@ -270,6 +275,10 @@ impl History {
             if places != 1 {
                 return Err(format!("reading {number} is in {places} places"));
             }
+            must(
+                is_open == 1 || open == 0,
+                "a reading not yet committed is below another one",
+            )?;
             handed += is_handed;
             overwritten += is_overwritten;
             open += is_open;

@@ -199,7 +199,7 @@ fn break_place(ring: &mut Ring, which: u32, draws: &mut Generator) {
     match which {
         1 => ring.n = draws.below(2),
         2 => ring.n = draws.over32(17),
-        3 => ring.s = 0,
+        3 => no_slots(ring),
         4 => ring.s = draws.over32(17),
         5 => ring.mode = draws.over32(2),
         6 => ring.reader_page = draws.over32(n + 1),
@@ -208,6 +208,13 @@ fn break_place(ring: &mut Ring, which: u32, draws: &mut Generator) {
         9 => ring.commit_index = draws.over32(s + 1),
         _ => ring.position = draws.over32(s + 1),
     }
+}
+
+/// Break 3: S = 0, and nothing is left that needs a slot.
+fn no_slots(ring: &mut Ring) {
+    ring.s = 0;
+    ring.used[..=ring.n as usize].fill(0);
+    (ring.commit_index, ring.position, ring.depth) = (0, 0, 0);
 }
 
 /// Breaks 11 to 13: a page is drawn first.
@@ -225,6 +232,9 @@ fn break_page(ring: &mut Ring, which: u32, draws: &mut Generator) {
 
 /// Breaks 14 to 18.
 fn break_stack(ring: &mut Ring, which: u32, draws: &mut Generator) {
+    for record in &mut ring.records {
+        record.phase = Phase::Want;
+    }
     if which == 14 {
         ring.depth = draws.over32(5);
         return;

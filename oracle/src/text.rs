@@ -36,7 +36,10 @@ const NAMES: [&str; 28] = [
 
 /// What each count of a receipt is called and what it is of.
 const COUNTS: [(&str, &str); 7] = [
-    ("begun", "readings begun: taken, dropped, or still to be given a place"),
+    (
+        "begun",
+        "readings begun: taken, dropped, or still to be given a place",
+    ),
     ("taken", "given a number and a place in the ring"),
     ("handed", "of those taken, handed out"),
     ("overwritten", "of those taken, lost to newer readings"),
