@@ -1,4 +1,4 @@
--- From the invariant to demand 3, to what complete means, and to a ring always in shape. `Theorem` has the theorem.
+-- From the invariant to demand 3, to what complete means, and to a ring always in shape. `Theorem` has the theorem, `Code` that of the code.
 pub mod Events
 pub mod Lost
 pub mod Slots
@@ -12,3 +12,4 @@ pub mod Shape
 pub mod Refusals
 pub mod Theorem
 pub mod Code
+pub mod CodeRuns

@@ -1,12 +1,16 @@
--- Demand 3 of the code: what holds of the answers that a caller is given, and of the receipt. The rules of the other files are not named in it, but through the
--- claim itself (specs/Demand): a run is made of steps that the functions may return, and its history is told by these steps' own answers.
+-- Demand 3 of the code: what holds of the answers that a caller is given, and of the receipt. No rule is named in it except through the claim
+-- (specs/Demand): a run is made of steps that the functions may return, and its history is told by these steps' own answers.
 -- The three promises are parameters here: proofs/demand/Code puts in what the checker proves of `Ring::fresh`, `Ring::act` and `Ring::receipt`.
 -- Assumes nothing.
 use mathlib.Core.Path.{_≡_}
+use mathlib.Core.Bool.{true}
+use mathlib.Core.Logic.{_≢_}
 use mathlib.Core.List.{List, [], _∷_}
 use Prim.Native.Nat.{ℕ}
+use Rattle.ring.specs.Answers.{told}
+use Rattle.ring.specs.Shape.{inShape}
 use Rattle.ring.specs.History.{Run, recall, valueIn, nothing}
-use Rattle.ring.specs.Demand.{Claim, CompleteClaim, Sound}
+use Rattle.ring.specs.Demand.{Claim, CompleteClaim, listed}
 use Rattle.ring.specs.declared.state.Action.{Action}
 use Rattle.ring.specs.declared.state.Answer.the-variants.{Accepted}
 use Rattle.ring.specs.declared.state.Receipt.{Receipt}
@@ -18,28 +22,40 @@ pub record Made : Type 0 where
   pub action : Action
   pub step : Step
 
+-- the actions of a list of calls
+abbrev pub asked : List Made → List Action
+asked [] = []
+asked (m ∷ rest) = m .action ∷ asked rest
+
 -- the run that the steps tell: the last ring, and the history of their answers
-abbrev pub told : Run → List Made → Run
-told r [] = r
-told r (m ∷ rest) =
-    told
+abbrev pub runTold : Run → List Made → Run
+runTold r [] = r
+runTold r (m ∷ rest) =
+    runTold
     (record {
       now = m .step .ring;
       past = recall (valueIn (m .action)) (r .now) (m .step .answer) (r .past);
     })
     rest
 
--- the whole claim of specs/Demand, of a receipt that was given
-pub record CodeClaim (c : Receipt) (r : Run) : Type 0 where
-  pub demand : Claim c r
-  pub complete : CompleteClaim c r
-  pub sound : Sound (r .now)
+-- .. from the step of a set-up
+abbrev pub runFrom : Step → List Made → Run
+runFrom first made = runTold (record { now = first .ring; past = nothing }) made
 
 module _ (FreshGives : ℕ → ℕ → ℕ → Step → Type 0) (ActGives : Ring → Action → Step → Type 0) (ReceiptGives : Ring → Receipt → Type 0) where
   -- each call is given the ring that the last one returned
   abbrev pub Follow : Ring → List Made → Type 0
   Follow r [] = Unit {0}
   Follow r (m ∷ rest) = ActGives r (m .action) (m .step) × Follow (m .step .ring) rest
+
+  -- the whole claim of specs/Demand, of the receipt c that was given and of whatever call comes next
+  pub record CodeClaim (c : Receipt) (r : Run) : Type 0 where
+    pub demand : Claim c r
+    pub complete : CompleteClaim c r
+    pub shape : inShape (r .now) ≡ true
+    pub refusals : (a : Action) (s : Step) → ActGives (r .now) a s → told (s .answer) .refusal ≡ listed (r .now) a
+    pub same : (a : Action) (s : Step) → ActGives (r .now) a s → listed (r .now) a ≢ 0 → s .ring ≡ r .now
+    pub receipt : c .refusal ≡ 0
 
   -- for every accepted set-up, every list of calls, and the receipt of the ring that the last one returned
   abbrev pub CodeDemand3 : Type 0
@@ -50,6 +66,18 @@ module _ (FreshGives : ℕ → ℕ → ℕ → Step → Type 0) (ActGives : Ring
       (made : List Made) →
       Follow (first .ring) made →
       (c : Receipt) →
-      let r = told (record { now = first .ring; past = nothing }) made in
-      ReceiptGives (r .now) c →
-      CodeClaim c r
+      ReceiptGives (runFrom first made .now) c →
+      CodeClaim c (runFrom first made)
+
+  -- such runs there are: for every set-up and every list of actions, steps and a receipt that the functions may return
+  pub record Runs (pages slots mode : ℕ) (actions : List Action) : Type 0 where
+    pub first : Step
+    pub fresh : FreshGives pages slots mode first
+    pub made : List Made
+    pub all : asked made ≡ actions
+    pub follow : Follow (first .ring) made
+    pub receipt : Receipt
+    pub given : ReceiptGives (runFrom first made .now) receipt
+
+  abbrev pub CodeRuns : Type 0
+  CodeRuns = (pages slots mode : ℕ) (actions : List Action) → Runs pages slots mode actions

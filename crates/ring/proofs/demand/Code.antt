@@ -1,5 +1,6 @@
--- Demand 3 and 'complete' of the code: of any run of `Ring::act` from `Ring::fresh`, and of `Ring::receipt` after it. What the functions give is what the checker
--- proves of them (`Learnt`: what their callers learn), and that is that each step is the rule's; so the run of the code is the run of the rules.
+-- Demand 3 and 'complete' of the code: of any run of `Ring::act` from `Ring::fresh`, and of `Ring::receipt` after it. What the functions give is what their callers
+-- learn of them (`Learnt`), which is that each step is the rule's; so the run of the code is the run of the rules. That the functions keep these promises is proved
+-- under proofs/state/Ring (fresh, act, receipt), not here; that there are such runs, in CodeRuns.
 -- Assumes nothing.
 use mathlib.Core.Path.{_≡_, refl, sym, ap, _∙_, subst}
 use mathlib.Core.List.{List, [], _∷_}
@@ -7,7 +8,7 @@ use Prim.Native.Nat.{ℕ}
 use Rattle.ring.specs.Answers.{Outcome, outcome}
 use Rattle.ring.specs.History.{Run, after, runOf, nothing, recall, valueIn}
 use Rattle.ring.specs.Demand.{Claim, CompleteClaim, Whole}
-use Rattle.ring.specs.Code.{Made, told, Follow, CodeDemand3}
+use Rattle.ring.specs.Code.{Made, asked, runTold, runFrom, Follow, CodeDemand3}
 use Rattle.ring.specs.declared.state.Action.{Action}
 use Rattle.ring.specs.declared.state.Receipt.{Receipt}
 use Rattle.ring.specs.declared.state.Ring.{Ring}
@@ -17,7 +18,7 @@ use Rattle.ring.proofs.state.Ring.act.Reads as act-promise
 use Rattle.ring.proofs.state.Ring.receipt.Reads as receipt-promise
 use Rattle.ring.proofs.demand.Theorem.{demand-3}
 
--- ---- what the checker proves of the functions: of the parameters, the result, and the parameters again, which are passed by value and stay
+-- ---- what callers learn of the functions: of the parameters, the result, and the parameters again, which are passed by value and stay
 
 abbrev pub FreshGives : ℕ → ℕ → ℕ → Step → Type 0
 FreshGives pages slots mode s = fresh-promise.Learnt tt (pages, (slots, (mode, tt))) s (pages, (slots, (mode, tt)))
@@ -30,16 +31,11 @@ ReceiptGives r c = receipt-promise.Learnt tt (r, tt) c (r, tt)
 
 -- ---- the run of the code is the run of the rules
 
--- the actions of a list of calls
-abbrev asked : List Made → List Action
-asked [] = []
-asked (m ∷ rest) = m .action ∷ asked rest
-
 -- the run that goes on by an outcome of action a
 abbrev by : Run → Action → Outcome → Run
 by r a o = record { now = o .ring; past = recall (valueIn a) (r .now) (o .answer) (r .past) }
 
-told-after : (r : Run) (made : List Made) → Follow FreshGives ActGives ReceiptGives (r .now) made → told r made ≡ after r (asked made)
+told-after : (r : Run) (made : List Made) → Follow FreshGives ActGives ReceiptGives (r .now) made → runTold r made ≡ after r (asked made)
 told-after r [] f = refl
 told-after r (m ∷ rest) f =
     told-after (by r (m .action) (outcome (m .step))) rest (f .1)
@@ -47,7 +43,7 @@ told-after r (m ∷ rest) f =
 
 pub code-demand-3 : CodeDemand3 FreshGives ActGives ReceiptGives
 code-demand-3 pages slots mode first given accepted made follows c receipt =
-    let r = told (record { now = first .ring; past = nothing }) made in
+    let r = runFrom first made in
     let ruled : r ≡ runOf pages slots mode (asked made) =
     told-after (record { now = first .ring; past = nothing }) made follows
     ∙ ap (λ (o : Outcome). after (record { now = o .ring; past = nothing }) (asked made)) given in
@@ -56,5 +52,8 @@ code-demand-3 pages slots mode first given accepted made follows c receipt =
     record {
       demand = subst (λ (c : Receipt). Claim c r) (sym receipt) (whole .demand);
       complete = subst (λ (c : Receipt). CompleteClaim c r) (sym receipt) (whole .complete);
-      sound = whole .sound;
+      shape = whole .sound .shape;
+      refusals = λ a s gives. ap (λ (o : Outcome). o .tells .refusal) gives ∙ whole .sound .refusals a;
+      same = λ a s gives refused. ap (λ (o : Outcome). o .ring) gives ∙ whole .sound .same a refused;
+      receipt = ap (λ (c : Receipt). c .refusal) receipt ∙ whole .sound .receipt;
     }
