@@ -80,23 +80,19 @@ fn turn(run: fn(u32) -> u64) -> (f64, u64) {
     (start.elapsed().as_nanos() as f64 / f64::from(ACTIONS), handed)
 }
 
-/// Every row in turn, round after round; refused where the rows did not do the same work.
-fn measure(rows: &mut [Row]) -> Result<(), String> {
-    for _ in 0..ROUNDS {
-        let mut seen = Vec::new();
-        for row in rows.iter_mut() {
-            let (time, handed) = turn(row.run);
-            row.times.push(time);
-            seen.push(handed);
-        }
-        if seen.iter().any(|&handed| handed != seen[0]) {
-            return Err(format!("the rows handed out {seen:?} readings"));
-        }
-    }
+/// A round: every row in turn; refused where they did not do the same work.
+fn round(rows: &mut [Row]) -> Result<(), String> {
+    let mut seen = Vec::new();
     for row in rows.iter_mut() {
-        row.times.sort_by(f64::total_cmp);
+        let (time, handed) = turn(row.run);
+        row.times.push(time);
+        seen.push(handed);
     }
-    Ok(())
+    if seen.iter().all(|&handed| handed == seen[0]) {
+        Ok(())
+    } else {
+        Err(format!("the rows handed out {seen:?} readings"))
+    }
 }
 
 /// The table; the ratios are to row `base`.
@@ -127,7 +123,10 @@ fn run() -> Result<(), String> {
         row("Rattle, by value, the methods", rattle_methods),
         row("Rattle, by value, Ring::act", rattle_act),
     ];
-    measure(&mut rows)?;
+    for _ in 0..ROUNDS {
+        round(&mut rows)?;
+    }
+    rows.iter_mut().for_each(|row| row.times.sort_by(f64::total_cmp));
     let text = table(&rows, 1);
     io::stdout()
         .write_all(text.as_bytes())

@@ -8,7 +8,7 @@ pub mod words; // link words, split, joined and searched
 pub mod shape; // the test of shape
 pub mod setup; // fresh and plain
 pub mod begin; // Begin
-pub mod pieces; // what a Write leaves in each piece
+pub mod pieces; // what a Write or a Read leaves in each piece
 pub mod write; // Write
 pub mod read; // Read
 pub mod receipt; // the receipt

@@ -39,12 +39,12 @@ pub enum Move {
     Commit,
 }
 
-// The cells of the arrays that a Write stores to. A slot is named by its place in the arrays of slots.
+// The cells of the arrays that an action stores to. A slot is named by its place in the arrays of slots.
 pub enum Stores {
     Same,
     // a slot and the number that it gets; its page and the page's used
     Number(usize, ReadingNo, PageNo, u32),
-    // t and its word; n, whose used becomes 0
+    // a page and its word; another page, whose used becomes 0
     Take(PageNo, u32, PageNo),
     // a page and its word
     Word(PageNo, u32),
