@@ -1,4 +1,6 @@
 // How often each kind of answer came.
+ghost use mathlib.Core.Path.{_≡_};
+ghost use Rattle.text.specs.Tallies.{counted};
 use crate::codes::answer_numbers;
 use crate::names::name;
 use crate::put::end_line;
@@ -12,7 +14,9 @@ use std::num::wrapping_add_u64;
 pub type Tally = [u64; 28];
 
 // One more answer of its kind.
-pub fn count_answer(counts: &mut Tally, answer: Answer) {
+pub fn count_answer(counts: &mut Tally, answer: Answer)
+    ensures { λ _. ⌜ now (counts .exit) ≡ counted (now (counts .entry)) answer ⌝ }
+{
     let numbers = answer_numbers(answer);
     let code = numbers.code as usize;
     counts[code] = wrapping_add_u64(counts[code], 1);
