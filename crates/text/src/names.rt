@@ -6,7 +6,7 @@ use crate::put::word;
 use ring::Answer;
 
 // A refusal by its number in the rules. Answers how long the text is.
-pub fn refusal_name(refusal: u32) -> usize
+pub(crate) fn refusal_name(refusal: u32) -> usize
     ensures { λ r. ⌜ r ≤ 16 ⌝ }
 {
     match refusal {
@@ -51,7 +51,7 @@ fn kind_name(code: u32) -> usize
 }
 
 // The name of an answer's kind, by its code. Answers how long it is.
-pub fn name(code: u32) -> usize
+pub(crate) fn name(code: u32) -> usize
     ensures { λ r. ⌜ r ≤ 16 ⌝ }
 {
     if code < 23 {
@@ -76,7 +76,7 @@ fn two_values(first: u64, second: u64) {
 }
 
 // An answer: its name, with its values in brackets.
-pub fn answer(answer: Answer) {
+pub(crate) fn answer(answer: Answer) {
     let numbers = answer_numbers(answer);
     name(numbers.code);
     match answer {
