@@ -98,21 +98,20 @@ fn break_page(s: &mut u32, kind: u32, n: u32, slots: u32, mut ring: Ring) -> Rin
     ring
 }
 
+// A page; a number over every page's where the page is what is broken.
+fn page_unless(s: &mut u32, n: u32, is_broken: bool) -> u32
+    requires { ⌜ n ≤ 16 ⌝ }
+{
+    if is_broken { no_page(s, n) } else { page(s, n) }
+}
+
 // 15 and 16: a tail or a page after it that is no page.
 fn broken_tail(s: &mut u32, kind: u32, n: u32) -> WriterPhase
     requires { ⌜ n ≤ 16 ⌝ }
 {
     let code = 1 + below(s, 4);
-    let first = if kind == 15 {
-        no_page(s, n)
-    } else {
-        page(s, n)
-    };
-    let second = if kind == 15 {
-        page(s, n)
-    } else {
-        no_page(s, n)
-    };
+    let first = page_unless(s, n, kind == 15);
+    let second = page_unless(s, n, kind == 16);
     writer_phase(PhaseDraw {
         code,
         first,
@@ -125,11 +124,7 @@ fn broken_tail(s: &mut u32, kind: u32, n: u32) -> WriterPhase
 fn broken_held(s: &mut u32, kind: u32, n: u32, slots: u32) -> WriterPhase
     requires { ⌜ (n ≤ 16) × (1 ≤ slots) × (slots ≤ 16) ⌝ }
 {
-    let p = if kind == 17 {
-        no_page(s, n)
-    } else {
-        page(s, n)
-    };
+    let p = page_unless(s, n, kind == 17);
     let slot = if kind == 17 {
         below(s, slots)
     } else {
@@ -182,16 +177,8 @@ fn broken_reader(s: &mut u32, kind: u32, n: u32) -> Reader
     requires { ⌜ n ≤ 16 ⌝ }
 {
     let code = 1 + below(s, 2);
-    let p = if kind == 19 {
-        no_page(s, n)
-    } else {
-        page(s, n)
-    };
-    let h = if kind == 19 {
-        page(s, n)
-    } else {
-        no_page(s, n)
-    };
+    let p = page_unless(s, n, kind == 19);
+    let h = page_unless(s, n, kind == 20);
     let phase = reader_phase(code, p, h);
     Reader { phase }
 }
