@@ -20,4 +20,5 @@ pub use lines::words_line;
 pub use receipts::receipt;
 pub use tallies::Tally;
 pub use tallies::count_answer;
+pub use tallies::no_answers;
 pub use tallies::tally;
