@@ -1,5 +1,6 @@
 // Answers by name.
 ghost use Prim.Native.Nat.{_≤_};
+use crate::codes::LAST_KIND;
 use crate::codes::answer_numbers;
 use crate::put::number;
 use crate::put::word;
@@ -54,10 +55,10 @@ fn kind_name(code: u32) -> usize
 pub(crate) fn name(code: u32) -> usize
     ensures { λ r. ⌜ r ≤ 16 ⌝ }
 {
-    if code < 23 {
+    if code <= LAST_KIND {
         kind_name(code)
     } else {
-        refusal_name(code - 22)
+        refusal_name(code - LAST_KIND)
     }
 }
 
