@@ -89,7 +89,7 @@ fn all_readings(mut ring: Ring, tally: &mut Tally, events: &mut u64) -> Ring {
 
 pub(crate) fn run() {
     text::section(b"65537 readings in stop mode, each written and then read until Empty");
-    let mut tally = [0u64; 28];
+    let mut tally = text::no_answers();
     let mut events: u64 = 0;
     let ring = all_readings(fresh(16, 16, Ring::STOP), &mut tally, &mut events);
     text::tally(&tally);

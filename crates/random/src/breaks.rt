@@ -19,16 +19,39 @@ use ring::state::WriterPhase;
 use std::num::wrapping_add_u64;
 use std::num::wrapping_sub_u64;
 
-// 1 to 5.
+// 1, 2, 4 and 5.
 fn break_size(s: &mut u32, kind: u32, mut size: Size) -> Size {
     match kind {
         1 => size.pages = below(s, 2),
         2 => size.pages = over(s, 17),
-        3 => size.slots = 0,
         4 => size.slots = over(s, 17),
         _ => size.mode = over(s, 2),
     }
     size
+}
+
+// Nothing reserved on pages 0 to n.
+fn empty_pages(n: u32, used: &mut [u32; 17])
+    requires { ⌜ n ≤ 16 ⌝ }
+{
+    let mut p: u32 = 0;
+    while p <= n {
+        let at = p as usize;
+        used[at] = 0;
+        p = p + 1;
+    }
+}
+
+// 3: no slots. What the slots bound is 0 too, and no writer is left to hold one, so that nothing else is out of shape.
+fn without_slots(n: u32, mut ring: Ring) -> Ring
+    requires { ⌜ n ≤ 16 ⌝ }
+{
+    ring.size.slots = 0;
+    empty_pages(n, &mut ring.used);
+    ring.places.index = 0;
+    ring.places.position = 0;
+    ring.depth = 0;
+    ring
 }
 
 fn missing_page(s: &mut u32, n: u32) -> PageNo
@@ -75,21 +98,20 @@ fn break_page(s: &mut u32, kind: u32, n: u32, slots: u32, mut ring: Ring) -> Rin
     ring
 }
 
+// A page; a number over every page's where the page is what is broken.
+fn page_unless(s: &mut u32, n: u32, is_broken: bool) -> u32
+    requires { ⌜ n ≤ 16 ⌝ }
+{
+    if is_broken { no_page(s, n) } else { page(s, n) }
+}
+
 // 15 and 16: a tail or a page after it that is no page.
 fn broken_tail(s: &mut u32, kind: u32, n: u32) -> WriterPhase
     requires { ⌜ n ≤ 16 ⌝ }
 {
     let code = 1 + below(s, 4);
-    let first = if kind == 15 {
-        no_page(s, n)
-    } else {
-        page(s, n)
-    };
-    let second = if kind == 15 {
-        page(s, n)
-    } else {
-        no_page(s, n)
-    };
+    let first = page_unless(s, n, kind == 15);
+    let second = page_unless(s, n, kind == 16);
     writer_phase(PhaseDraw {
         code,
         first,
@@ -102,11 +124,7 @@ fn broken_tail(s: &mut u32, kind: u32, n: u32) -> WriterPhase
 fn broken_held(s: &mut u32, kind: u32, n: u32, slots: u32) -> WriterPhase
     requires { ⌜ (n ≤ 16) × (1 ≤ slots) × (slots ≤ 16) ⌝ }
 {
-    let p = if kind == 17 {
-        no_page(s, n)
-    } else {
-        page(s, n)
-    };
+    let p = page_unless(s, n, kind == 17);
     let slot = if kind == 17 {
         below(s, slots)
     } else {
@@ -115,10 +133,25 @@ fn broken_held(s: &mut u32, kind: u32, n: u32, slots: u32) -> WriterPhase
     WriterPhase::Held(PageNo(p), slot)
 }
 
-// 14 to 18.
+// Every writer with its value, still to be given a place.
+fn all_wanting(mut ring: Ring) -> Ring {
+    let mut i: usize = 0;
+    while i < 4 {
+        let w = ring.stack[i];
+        ring.stack[i] = Writer {
+            value: w.value,
+            phase: WriterPhase::Want,
+        };
+        i = i + 1;
+    }
+    ring
+}
+
+// 14 to 18. A record drawn at or above the old depth may hold any number, and the new depth may let it in: so every record is set to want first.
 fn break_stack(s: &mut u32, kind: u32, n: u32, slots: u32, mut ring: Ring) -> Ring
     requires { ⌜ (n ≤ 16) × (1 ≤ slots) × (slots ≤ 16) ⌝ }
 {
+    ring = all_wanting(ring);
     if kind == 14 {
         ring.depth = over(s, 5);
         return ring;
@@ -144,16 +177,8 @@ fn broken_reader(s: &mut u32, kind: u32, n: u32) -> Reader
     requires { ⌜ n ≤ 16 ⌝ }
 {
     let code = 1 + below(s, 2);
-    let p = if kind == 19 {
-        no_page(s, n)
-    } else {
-        page(s, n)
-    };
-    let h = if kind == 19 {
-        page(s, n)
-    } else {
-        no_page(s, n)
-    };
+    let p = page_unless(s, n, kind == 19);
+    let h = page_unless(s, n, kind == 20);
     let phase = reader_phase(code, p, h);
     Reader { phase }
 }
@@ -199,10 +224,11 @@ pub(crate) fn break_ring(s: &mut u32, kind: u32, n: u32, slots: u32, mut ring: R
     requires { ⌜ (n ≤ 16) × (1 ≤ slots) × (slots ≤ 16) ⌝ }
 {
     match kind {
-        1..=5 => {
+        1 | 2 | 4 | 5 => {
             let size = ring.size;
             ring.size = break_size(s, kind, size);
         }
+        3 => ring = without_slots(n, ring),
         6..=10 => {
             let places = ring.places;
             ring.places = break_places(s, kind, n, slots, places);

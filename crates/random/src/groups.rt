@@ -89,7 +89,7 @@ fn out_of_shape(tally: &mut Tally) {
 }
 
 pub(crate) fn run() {
-    let mut tally = [0u64; 28];
+    let mut tally = text::no_answers();
     text::section(b"Random states: each of the three actions on 71000 states");
     in_shape(&mut tally);
     out_of_shape(&mut tally);

@@ -106,7 +106,7 @@ fn run_groups(tally: &mut Tally) {
 }
 
 pub(crate) fn run() {
-    let mut tally = [0u64; 28];
+    let mut tally = text::no_answers();
     text::heading(b"Random lists: 20160 lists of 500 actions, 42 for each set-up");
     run_groups(&mut tally);
     text::section(b"Answers to the lists");

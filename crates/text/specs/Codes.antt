@@ -1,21 +1,18 @@
 -- An answer as numbers: the code of its kind, in the order of the tally, and the values in its brackets. Assumes nothing.
-use Prim.Native.Nat.{ℕ}
+use Prim.Native.Nat.{ℕ, _+_}
 use Rattle.ring.specs.declared.state.Refusal.{Refusal}
-use Rattle.ring.specs.declared.state.Refusal.the-variants.{Shape, Depth, Nobody, Worn, SetUp}
 use Rattle.ring.specs.declared.state.Answer.{Answer}
 use Rattle.ring.specs.declared.state.Answer.the-variants.{Accepted, Begun, Reserved, Looked, Dropped, Marked, Shared, Retry, Promoted, Standing, Cleared, Pushed, Passed, Filled, Committed, Pending, Event, Empty, Found, Busy, Prepared, Swapped, Missed, Refused}
+use Rattle.ring.specs.Answers.{numberOf}
 use Rattle.text.specs.declared.codes.Numbers.{Numbers}
 
 -- how many kinds of answer there are, with each refusal as one of its own
 abbrev pub kinds : ℕ
 kinds = 28
 
+-- the refusals follow the other kinds, the last of which has code 22, by their numbers in the rules
 abbrev pub refusalCode : Refusal → ℕ
-refusalCode Shape = 23
-refusalCode Depth = 24
-refusalCode Nobody = 25
-refusalCode Worn = 26
-refusalCode SetUp = 27
+refusalCode why = 22 + numberOf why
 
 abbrev pub withTwo : ℕ → ℕ → ℕ → Numbers
 withTwo code first second = record { code = code; first = first; second = second }

@@ -1,2 +1,3 @@
 -- What the text's numbers are.
 pub mod Codes
+pub mod Tallies

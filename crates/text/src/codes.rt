@@ -11,16 +11,13 @@ pub struct Numbers {
     pub second: u64,
 }
 
+// The code of the last kind that is no refusal. The refusals follow it, by their numbers in the rules.
+pub(crate) const LAST_KIND: u32 = 22;
+
 fn refusal_code(why: Refusal) -> u32
     ensures { λ r. ⌜ r ≡ refusalCode why ⌝ }
 {
-    match why {
-        Refusal::Shape => 23,
-        Refusal::Depth => 24,
-        Refusal::Nobody => 25,
-        Refusal::Worn => 26,
-        Refusal::SetUp => 27,
-    }
+    LAST_KIND + why.number()
 }
 
 // An answer with no value.

@@ -1,12 +1,13 @@
 // Answers by name.
 ghost use Prim.Native.Nat.{_≤_};
+use crate::codes::LAST_KIND;
 use crate::codes::answer_numbers;
 use crate::put::number;
 use crate::put::word;
 use ring::Answer;
 
 // A refusal by its number in the rules. Answers how long the text is.
-pub fn refusal_name(refusal: u32) -> usize
+pub(crate) fn refusal_name(refusal: u32) -> usize
     ensures { λ r. ⌜ r ≤ 16 ⌝ }
 {
     match refusal {
@@ -51,13 +52,13 @@ fn kind_name(code: u32) -> usize
 }
 
 // The name of an answer's kind, by its code. Answers how long it is.
-pub fn name(code: u32) -> usize
+pub(crate) fn name(code: u32) -> usize
     ensures { λ r. ⌜ r ≤ 16 ⌝ }
 {
-    if code < 23 {
+    if code <= LAST_KIND {
         kind_name(code)
     } else {
-        refusal_name(code - 22)
+        refusal_name(code - LAST_KIND)
     }
 }
 
@@ -76,7 +77,7 @@ fn two_values(first: u64, second: u64) {
 }
 
 // An answer: its name, with its values in brackets.
-pub fn answer(answer: Answer) {
+pub(crate) fn answer(answer: Answer) {
     let numbers = answer_numbers(answer);
     name(numbers.code);
     match answer {

@@ -5,10 +5,10 @@ ghost use Rattle.io.specs.Digits.{Fewest};
 use libc::STDOUT_FILENO;
 
 // How wide the first column is.
-pub const COLUMN: usize = 18;
+pub(crate) const COLUMN: usize = 18;
 
 // Text as it stands. Answers its length.
-pub fn word(text: &[u8]) -> usize
+pub(crate) fn word(text: &[u8]) -> usize
     ensures { λ r. ⌜ r ≡ length (now (text .entry)) ⌝ }
 {
     io::write_all(STDOUT_FILENO, text);
@@ -16,7 +16,7 @@ pub fn word(text: &[u8]) -> usize
 }
 
 // A number in decimal. Answers how many digits it has.
-pub fn number(n: u64) -> usize
+pub(crate) fn number(n: u64) -> usize
     ensures { λ r. ⌜ Fewest 10 1 n r ⌝ }
 {
     let mut text = [0u8; 20];
@@ -35,25 +35,25 @@ fn front(text: &[u8], n: usize) {
 }
 
 // The spaces that follow `written` characters in a column of this width, which is at most 20.
-pub fn fill(written: usize, width: usize) {
+pub(crate) fn fill(written: usize, width: usize) {
     if written < width {
         front(b"                    ", width - written);
     }
 }
 
 // The spaces after `written` characters in the first column.
-pub fn pad(written: usize) {
+pub(crate) fn pad(written: usize) {
     fill(written, COLUMN);
 }
 
 // A number at the right of a column of this width.
-pub fn number_right(n: u64, width: usize) {
+pub(crate) fn number_right(n: u64, width: usize) {
     let mut text = [0u8; 20];
     let k = io::decimal(n, &mut text);
     fill(k, width);
     io::write_all(STDOUT_FILENO, &text[..k]);
 }
 
-pub fn end_line() {
+pub(crate) fn end_line() {
     io::write_all(STDOUT_FILENO, b"\n");
 }

@@ -44,28 +44,24 @@ fn handed_line(handed: u64, begun: u64, complete: bool) {
 // The receipt; a refused one has its zeros.
 pub fn receipt(r: Receipt) {
     receipt_heading(r.refusal);
-    count_line(b"begun", r.begun, b"readings begun");
     count_line(
-        b"taken",
-        r.taken,
-        b"of these, given a number and a place in the ring",
+        b"begun",
+        r.begun,
+        b"readings begun: taken, dropped, or still to be given a place",
     );
+    count_line(b"taken", r.taken, b"given a number and a place in the ring");
     count_line(b"handed", r.handed, b"of those taken, handed out");
     count_line(
         b"overwritten",
         r.overwritten,
         b"of those taken, lost to newer readings",
     );
-    count_line(
-        b"dropped",
-        r.dropped,
-        b"of those begun, lost for want of room",
-    );
+    count_line(b"dropped", r.dropped, b"never taken, lost for want of room");
     count_line(
         b"waiting",
         r.waiting,
-        b"of those taken, committed and to be handed out",
+        b"of those taken, finished and to be handed out",
     );
-    count_line(b"open", r.open, b"of those taken, not committed yet");
+    count_line(b"open", r.open, b"of those taken, not finished yet");
     handed_line(r.handed, r.begun, r.complete);
 }

@@ -1,4 +1,6 @@
 // How often each kind of answer came.
+ghost use mathlib.Core.Path.{_≡_};
+ghost use Rattle.text.specs.Tallies.{noAnswers, counted};
 use crate::codes::answer_numbers;
 use crate::names::name;
 use crate::put::end_line;
@@ -8,11 +10,23 @@ use crate::put::word;
 use ring::Answer;
 use std::num::wrapping_add_u64;
 
+// How many kinds of answer there are, with each refusal as one of its own.
+const KINDS: usize = 28;
+
 // A count for each kind of answer, by its code.
-pub type Tally = [u64; 28];
+pub type Tally = [u64; KINDS];
+
+// A tally before any answer.
+pub fn no_answers() -> Tally
+    ensures { λ r. ⌜ r ≡ noAnswers ⌝ }
+{
+    [0u64; KINDS]
+}
 
 // One more answer of its kind.
-pub fn count_answer(counts: &mut Tally, answer: Answer) {
+pub fn count_answer(counts: &mut Tally, answer: Answer)
+    ensures { λ _. ⌜ now (counts .exit) ≡ counted (now (counts .entry)) answer ⌝ }
+{
     let numbers = answer_numbers(answer);
     let code = numbers.code as usize;
     counts[code] = wrapping_add_u64(counts[code], 1);
@@ -32,10 +46,9 @@ fn tally_line(code: u32, count: u64) {
 
 // A line for each kind that came.
 pub fn tally(counts: &Tally) {
-    let mut code: u32 = 0;
-    while code < 28 {
-        let at = code as usize;
-        tally_line(code, counts[at]);
+    let mut code: usize = 0;
+    while code < KINDS {
+        tally_line(code as u32, counts[code]);
         code = code + 1;
     }
 }

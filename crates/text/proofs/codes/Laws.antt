@@ -12,7 +12,7 @@ use Rattle.text.specs.Codes.{kinds, refusalCode, numbersOf}
 abbrev pub code-of : Numbers → ℕ
 code-of n = n .code
 
-refusal-below : (why : Refusal) → refusalCode why < kinds
+pub refusal-below : (why : Refusal) → refusalCode why < kinds
 refusal-below Shape = omega arith
 refusal-below Depth = omega arith
 refusal-below Nobody = omega arith

@@ -1,4 +1,4 @@
--- `tallies::count_answer` counts within the tally: an answer's code is one of the kinds. Assumes nothing.
+-- `tallies::count_answer` is the definition. It counts within the tally, since an answer's code is one of the kinds. Assumes nothing.
 use borrow.Author.Needs.{needs}
 use native.Mathlib.Omega.{arith}
 use mathlib.Core.Path.{ap}
@@ -12,6 +12,9 @@ element-copy-out-wrapping-add-u64 c = omega (arith, ap code-of (c .before .answe
 element-write-counts : tie.Need-element-write-counts
 element-write-counts c = omega (arith, ap code-of (c .before .before .before .answer-numbers .ensures), code-below (c .before .before .before .before .args .answer))
 
+returns : tie.Need-returns
+returns c = rw (c .wrapping-add-u64 .ensures, c .before .before .before .answer-numbers .ensures)
+
 pub count-answer-spec : {M : Type 1} → statement M
 count-answer-spec =
     tie.close
@@ -23,4 +26,4 @@ count-answer-spec =
     (λ c κs. search needs)
     (λ c. search needs)
     element-write-counts
-    (λ c. search needs))
+    returns)

@@ -1,6 +1,7 @@
 -- `tallies::tally` is safe and ends. The measure is what is left of the codes. Assumes nothing.
 use borrow.Author.Needs.{needs}
 use Prim.Native.Nat.{_-_}
+use Rattle.text.specs.Codes.{kinds}
 use Rattle.text.proofs.tallies.tally.Statement.{statement}
 use Rattle.text.proofs.tallies.tally.Tie as tie
 
@@ -8,7 +9,7 @@ abbrev Inv-loop : tie.InvT-loop
 Inv-loop counts code₀ code = Unit {0}
 
 abbrev μ-loop : tie.MeasureT-loop
-μ-loop counts code₀ code = 28 - code
+μ-loop counts code₀ code = kinds - code
 
 pub tally-spec : {M : Type 1} → statement M
 tally-spec =

@@ -1,0 +1,18 @@
+-- A tally: how often each kind of answer came, by its code. Assumes nothing.
+use Prim.Native.Nat.{ℕ, _+_, _%_, _^_}
+use mathlib.Core.List.{List}
+use lib.ListN.{getD, set, replicate}
+use Rattle.ring.specs.declared.state.Answer.{Answer}
+use Rattle.text.specs.Codes.{kinds, numbersOf}
+
+-- a tally before any answer
+abbrev pub noAnswers : List ℕ
+noAnswers = replicate kinds 0
+
+-- one more at this code, modulo 2^64, and the other counts as they were
+abbrev pub oneMore : List ℕ → ℕ → List ℕ
+oneMore counts code = set counts code ((getD counts code 0 + 1) % 2 ^ 64)
+
+-- one more answer of its kind
+abbrev pub counted : List ℕ → Answer → List ℕ
+counted counts answer = oneMore counts (numbersOf answer .code)
