@@ -6,7 +6,6 @@ ghost use Rattle.ring.specs.Limits.{mostPages};
 ghost use Rattle.ring.specs.Answers.{outcome};
 ghost use Rattle.ring.specs.Refusals.{readVerdict};
 ghost use Rattle.ring.specs.Shape.{readerFits};
-ghost use Rattle.ring.specs.Words.{readerOnCommit};
 ghost use Rattle.ring.specs.Read.{readLimit, planIdle, planReady, planReader, readRule};
 use crate::cells::used_at;
 use crate::moves::Fetch;
