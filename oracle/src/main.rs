@@ -1,6 +1,6 @@
-//! The ring's rules a second time, written from document 01 and from
-//! docs/PROGRAMS.md alone. `oracle cases` and `oracle random` print the text of
-//! the two programs of these names.
+//! The ring's rules a second time, written from document 01 and not from the
+//! ring's code; where 01 leaves a point open, by docs/DECISIONS.md. `oracle cases`
+//! and `oracle random` print the text of docs/PROGRAMS.md.
 
 mod cases;
 mod demand;

@@ -3,10 +3,10 @@ use mathlib.Core.Path.{_≡_, ap, _∙_}
 use Prim.Native.Nat.{_-_, _≤_}
 use native.Mathlib.Omega.{arith}
 use borrow.Author.Needs.{needs}
-use Rattle.ring.specs.Answers.{Outcome, outcome}
+use Rattle.ring.specs.Answers.{outcome}
 use Rattle.ring.specs.Act.{act}
 use Rattle.bench.specs.Loop.{ran}
-use Rattle.bench.proofs.Loop.{ran-next}
+use Rattle.bench.proofs.Loop.{ran-next, handed-at}
 use Rattle.bench.proofs.bench_by_act.Statement.{statement}
 use Rattle.bench.proofs.bench_by_act.Tie as tie
 
@@ -26,10 +26,7 @@ loop-again c =
     (omega arith, ran-next (l .i) (l .inv .1) (c .act .ensures ∙ ap (act (l .s .ring)) (c .before .next-action .ensures)))
 
 returns : tie.Need-returns Inv-loop μ-loop
-returns c =
-    let l = c .before .loop in
-    let done : l .i ≡ c .before .before .before .args .actions = omega arith in
-    ap (λ (q : Outcome). q .ring .counts .handed) (l .inv .1 ∙ ap ran done)
+returns c = handed-at (c .before .loop .i) (c .before .before .before .args .actions) (c .before .loop .inv .1) (omega arith)
 
 pub bench-by-act-spec : {M : Type 1} → statement M
 bench-by-act-spec =

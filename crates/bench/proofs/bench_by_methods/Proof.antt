@@ -1,12 +1,12 @@
 -- `bench_by_methods` makes the actions of the definition: after i turns the step is that of the first i actions, whichever method made the last. Assumes nothing.
-use mathlib.Core.Path.{_≡_, ap, _∙_}
+use mathlib.Core.Path.{_≡_}
 use Prim.Native.Nat.{_-_, _≤_}
 use native.Mathlib.Omega.{arith}
 use borrow.Author.Needs.{needs}
 use borrow.Author.Tests.{lt-ltb, le-ltb}
-use Rattle.ring.specs.Answers.{Outcome, outcome}
+use Rattle.ring.specs.Answers.{outcome}
 use Rattle.bench.specs.Loop.{ran}
-use Rattle.bench.proofs.Loop.{ran-next}
+use Rattle.bench.proofs.Loop.{ran-next, handed-at}
 use Rattle.bench.proofs.bench_by_methods.Statement.{statement}
 use Rattle.bench.proofs.bench_by_methods.Tie as tie
 
@@ -39,10 +39,7 @@ loop-again-3 c =
     (omega arith, ran-next (l .i) (l .inv .1) (rw (le-ltb _ _ (c .before .before .before .if1 .left), le-ltb _ _ (c .before .if2 .left)) (c .begin .ensures)))
 
 returns : tie.Need-returns Inv-loop μ-loop
-returns c =
-    let l = c .before .loop in
-    let done : l .i ≡ c .before .before .before .args .actions = omega arith in
-    ap (λ (q : Outcome). q .ring .counts .handed) (l .inv .1 ∙ ap ran done)
+returns c = handed-at (c .before .loop .i) (c .before .before .before .args .actions) (c .before .loop .inv .1) (omega arith)
 
 pub bench-by-methods-spec : {M : Type 1} → statement M
 bench-by-methods-spec =
