@@ -42,7 +42,7 @@ fn fold_three(h: u32, x: u32, y: u32, z: u32) -> u32 {
 }
 
 pub(crate) fn fold_answer(h: u32, answer: Answer) -> u32 {
-    let numbers = text::answer_numbers(answer);
+    let numbers = ring::answer_numbers(answer);
     // the values are below 2^32: a count that is told stood in shape
     let first = (numbers.first % TWO_32) as u32;
     let second = (numbers.second % TWO_32) as u32;

@@ -4,19 +4,25 @@
 use mathlib.Core.List.{List, [], _∷_}
 use Prim.Native.Nat.{ℕ}
 use Rattle.ring.specs.declared.state.Refusal.{Refusal}
-use Rattle.ring.specs.declared.state.Refusal.the-variants.{Shape, Depth, Nobody, Worn, SetUp}
+use Rattle.ring.specs.declared.state.Refusal.the-variants.{Shape, Depth, Nobody, Worn, SetUp, Mark, Version, Sizes, Action, Room}
 use Rattle.ring.specs.declared.state.Answer.{Answer}
 use Rattle.ring.specs.declared.state.Answer.the-variants.{Accepted, Begun, Reserved, Looked, Dropped, Marked, Shared, Retry, Promoted, Standing, Cleared, Pushed, Passed, Filled, Committed, Pending, Event, Empty, Found, Busy, Prepared, Swapped, Missed, Refused}
 use Rattle.ring.specs.declared.state.Ring.{Ring}
 use Rattle.ring.specs.declared.state.Step.{Step}
 
--- 1 SHAPE, 2 DEPTH, 3 NOBODY, 4 WORN, 5 SETUP
+-- 1 SHAPE, 2 DEPTH, 3 NOBODY, 4 WORN, 5 SETUP; of a trace, 6 "longer than that, or mark wrong or cut", 7 "version other or cut", 8 "set-up cut, or
+-- out of range", 9 "an unknown or cut action"; 10, room lent that is too short
 abbrev pub numberOf : Refusal → ℕ
 numberOf Shape = 1
 numberOf Depth = 2
 numberOf Nobody = 3
 numberOf Worn = 4
 numberOf SetUp = 5
+numberOf Mark = 6
+numberOf Version = 7
+numberOf Sizes = 8
+numberOf Action = 9
+numberOf Room = 10
 
 -- what an answer tells: the number of a refusal, 0 where nothing is refused, and the values in the answer's brackets, in their order
 pub record Told : Type 0 where

@@ -3,6 +3,7 @@ pub mod Limits
 pub mod Lists
 pub mod State
 pub mod Answers
+pub mod Codes
 pub mod Refusals
 pub mod Words
 pub mod Shape

@@ -14,6 +14,11 @@ impl Refusal {
             Refusal::Nobody => 3,
             Refusal::Worn => 4,
             Refusal::SetUp => 5,
+            Refusal::Mark => 6,
+            Refusal::Version => 7,
+            Refusal::Sizes => 8,
+            Refusal::Action => 9,
+            Refusal::Room => 10,
         }
     }
 }

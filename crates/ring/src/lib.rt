@@ -3,6 +3,7 @@
 pub mod state; // the ring and its parts
 pub mod moves; // what an action decides before it stores
 pub mod answers; // refusals by number
+pub mod codes; // answers as numbers
 pub mod cells; // what stands where in the arrays
 pub mod words; // link words, split, joined and searched
 pub mod shape; // the test of shape
@@ -15,6 +16,8 @@ pub mod receipt; // the receipt
 pub mod act; // any of the three
 
 // what a caller names
+pub use codes::Numbers;
+pub use codes::answer_numbers;
 pub use state::Action;
 pub use state::Answer;
 pub use state::PageNo;

@@ -87,13 +87,23 @@ pub struct Ring {
     pub values: [u32; 272],
 }
 
-// Why an action, a receipt or a set-up is refused.
+// Why an action, a receipt, a set-up or a trace is refused.
 pub enum Refusal {
     Shape,
     Depth,
     Nobody,
     Worn,
     SetUp,
+    // of a trace: it is too long, or its mark is wrong or cut
+    Mark,
+    // of a trace: its version
+    Version,
+    // of a trace: its set-up is cut, or out of range
+    Sizes,
+    // of a trace: an unknown or cut action
+    Action,
+    // the room that was lent is too short
+    Room,
 }
 
 // What an action or a set-up answers.

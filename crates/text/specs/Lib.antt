@@ -1,3 +1,2 @@
 -- What the text's numbers are.
-pub mod Codes
 pub mod Tallies

@@ -1,5 +1,4 @@
 // The ring's answers, states and receipts as lines of text on standard output. Every function takes any value: none has a `requires`.
-mod codes; // answers by number
 mod put; // what a line is made of
 mod names; // answers by name
 mod lines; // lines about actions and rings, and headings
@@ -7,8 +6,6 @@ mod tallies; // how often each answer came
 mod receipts; // the receipt
 
 // what a caller uses
-pub use codes::Numbers;
-pub use codes::answer_numbers;
 pub use lines::action_line;
 pub use lines::commit_line;
 pub use lines::digest_line;

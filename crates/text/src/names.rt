@@ -1,10 +1,10 @@
 // Answers by name.
 ghost use Prim.Native.Nat.{_≤_};
-use crate::codes::LAST_KIND;
-use crate::codes::answer_numbers;
 use crate::put::number;
 use crate::put::word;
 use ring::Answer;
+use ring::answer_numbers;
+use ring::codes::LAST_KIND;
 
 // A refusal by its number in the rules. Answers how long the text is.
 pub(crate) fn refusal_name(refusal: u32) -> usize

@@ -1,17 +1,17 @@
 // How often each kind of answer came.
 ghost use mathlib.Core.Path.{_≡_};
 ghost use Rattle.text.specs.Tallies.{noAnswers, counted};
-use crate::codes::answer_numbers;
 use crate::names::name;
 use crate::put::end_line;
 use crate::put::number;
 use crate::put::pad;
 use crate::put::word;
 use ring::Answer;
+use ring::answer_numbers;
 use std::num::wrapping_add_u64;
 
 // How many kinds of answer there are, with each refusal as one of its own.
-const KINDS: usize = 28;
+const KINDS: usize = 33;
 
 // A count for each kind of answer, by its code.
 pub type Tally = [u64; KINDS];

@@ -1,12 +1,12 @@
 -- The code of an answer is that of one of the kinds. Assumes nothing.
 use Prim.Native.Nat.{ℕ, _<_}
 use native.Mathlib.Omega.{arith}
 use Rattle.ring.specs.declared.state.Refusal.{Refusal}
-use Rattle.ring.specs.declared.state.Refusal.the-variants.{Shape, Depth, Nobody, Worn, SetUp}
+use Rattle.ring.specs.declared.state.Refusal.the-variants.{Shape, Depth, Nobody, Worn, SetUp, Mark, Version, Sizes, Action, Room}
 use Rattle.ring.specs.declared.state.Answer.{Answer}
 use Rattle.ring.specs.declared.state.Answer.the-variants.{Accepted, Begun, Reserved, Looked, Dropped, Marked, Shared, Retry, Promoted, Standing, Cleared, Pushed, Passed, Filled, Committed, Pending, Event, Empty, Found, Busy, Prepared, Swapped, Missed, Refused}
-use Rattle.text.specs.declared.codes.Numbers.{Numbers}
-use Rattle.text.specs.Codes.{kinds, refusalCode, numbersOf}
+use Rattle.ring.specs.declared.codes.Numbers.{Numbers}
+use Rattle.ring.specs.Codes.{kinds, refusalCode, numbersOf}
 
 -- the code in an answer as numbers
 abbrev pub code-of : Numbers → ℕ
@@ -18,6 +18,11 @@ refusal-below Depth = omega arith
 refusal-below Nobody = omega arith
 refusal-below Worn = omega arith
 refusal-below SetUp = omega arith
+refusal-below Mark = omega arith
+refusal-below Version = omega arith
+refusal-below Sizes = omega arith
+refusal-below Action = omega arith
+refusal-below Room = omega arith
 
 pub code-below : (a : Answer) → numbersOf a .code < kinds
 code-below Accepted = omega arith

@@ -1,8 +1,8 @@
 // Answers by number: the code of an answer's kind, with each refusal as a kind of its own, and the values in its brackets.
 ghost use mathlib.Core.Path.{_≡_};
-ghost use Rattle.text.specs.Codes.{refusalCode, kind, withOne, numbersOf};
-use ring::Answer;
-use ring::Refusal;
+ghost use Rattle.ring.specs.Codes.{refusalCode, kind, withOne, numbersOf};
+use crate::state::Answer;
+use crate::state::Refusal;
 
 // The code of an answer's kind, and its first and its second value, 0 for a value that it does not have.
 pub struct Numbers {
@@ -12,7 +12,7 @@ pub struct Numbers {
 }
 
 // The code of the last kind that is no refusal. The refusals follow it, by their numbers in the rules.
-pub(crate) const LAST_KIND: u32 = 22;
+pub const LAST_KIND: u32 = 22;
 
 fn refusal_code(why: Refusal) -> u32
     ensures { λ r. ⌜ r ≡ refusalCode why ⌝ }

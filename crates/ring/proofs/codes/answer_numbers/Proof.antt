@@ -1,7 +1,7 @@
 -- `codes::answer_numbers` is the definition, by the answer. Assumes nothing.
 use borrow.Author.Needs.{needs}
-use Rattle.text.proofs.codes.answer_numbers.Statement.{statement}
-use Rattle.text.proofs.codes.answer_numbers.Tie as tie
+use Rattle.ring.proofs.codes.answer_numbers.Statement.{statement}
+use Rattle.ring.proofs.codes.answer_numbers.Tie as tie
 
 returns : tie.Need-returns
 returns c = rw (c .before .enum-told .given .1) (c .kind .ensures)

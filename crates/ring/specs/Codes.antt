@@ -1,14 +1,14 @@
 -- An answer as numbers: the code of its kind, in the order of the tally, and the values in its brackets. Assumes nothing.
 use Prim.Native.Nat.{ℕ, _+_}
 use Rattle.ring.specs.declared.state.Refusal.{Refusal}
 use Rattle.ring.specs.declared.state.Answer.{Answer}
 use Rattle.ring.specs.declared.state.Answer.the-variants.{Accepted, Begun, Reserved, Looked, Dropped, Marked, Shared, Retry, Promoted, Standing, Cleared, Pushed, Passed, Filled, Committed, Pending, Event, Empty, Found, Busy, Prepared, Swapped, Missed, Refused}
 use Rattle.ring.specs.Answers.{numberOf}
-use Rattle.text.specs.declared.codes.Numbers.{Numbers}
+use Rattle.ring.specs.declared.codes.Numbers.{Numbers}
 
 -- how many kinds of answer there are, with each refusal as one of its own
 abbrev pub kinds : ℕ
-kinds = 28
+kinds = 33
 
 -- the refusals follow the other kinds, the last of which has code 22, by their numbers in the rules
 abbrev pub refusalCode : Refusal → ℕ
