@@ -14,6 +14,7 @@ pub mod Read
 pub mod Pieces
 pub mod Receipt
 pub mod Act
+pub mod Actions
 pub mod Remember
 pub mod History
 pub mod Demand

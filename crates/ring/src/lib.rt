@@ -14,8 +14,11 @@ pub mod write; // Write
 pub mod read; // Read
 pub mod receipt; // the receipt
 pub mod act; // any of the three
+pub mod actions; // actions as bytes
 
 // what a caller names
+pub use actions::Coded;
+pub use actions::action_at;
 pub use codes::Numbers;
 pub use codes::answer_numbers;
 pub use state::Action;

@@ -1,0 +1,97 @@
+-- Actions as bytes. Request E1: "Then actions: byte 1 and four value bytes, low first, for Begin; 2 for Write; 3 for Read." What stands at a place, the list of
+-- actions that some bytes are and where it stops, and the bytes of a list.
+-- Assumes nothing.
+use mathlib.Core.Bool.{cond}
+use mathlib.Core.List.{List, [], _∷_, _++_}
+use Prim.Native.Nat.{ℕ, zero, suc, _+_, _-_, _*_, _/_, _%_}
+use lib.Dec.{eqb, leb, ltb}
+use lib.ListN.{length, getD}
+use Rattle.ring.specs.Lists.{first}
+use Rattle.ring.specs.declared.state.Action.{Action}
+use Rattle.ring.specs.declared.state.Action.the-variants.{Begin, Write, Read}
+use Rattle.ring.specs.declared.actions.Coded.{Coded}
+use Rattle.ring.specs.declared.actions.Coded.the-variants.{Whole, Broken, End}
+
+abbrev pub beginCode : ℕ
+beginCode = 1
+
+abbrev pub writeCode : ℕ
+writeCode = 2
+
+abbrev pub readCode : ℕ
+readCode = 3
+
+-- "byte 1 and four value bytes"
+abbrev pub beginLength : ℕ
+beginLength = 5
+
+-- ---- from bytes
+
+-- the number in four bytes, "low first"
+abbrev pub valueOf : ℕ → ℕ → ℕ → ℕ → ℕ
+valueOf a b c d = a + 256 * b + 65536 * c + 16777216 * d
+
+abbrev pub byteAt : List ℕ → ℕ → ℕ
+byteAt bytes i = getD bytes i 0
+
+-- the value of a Begin that stands at a place
+abbrev pub valueAt : List ℕ → ℕ → ℕ
+valueAt bytes at = valueOf (byteAt bytes (at + 1)) (byteAt bytes (at + 2)) (byteAt bytes (at + 3)) (byteAt bytes (at + 4))
+
+-- a Begin, which may be cut
+abbrev pub beginAt : List ℕ → ℕ → Coded
+beginAt bytes at = cond (ltb (length bytes - at) beginLength) Broken (Whole (Begin (valueAt bytes at)) (at + beginLength))
+
+-- what stands at a place: nothing, a whole action with the place after it, or "an unknown or cut action"
+abbrev pub codedAt : List ℕ → ℕ → Coded
+codedAt bytes at =
+    first
+    ((leb (length bytes) at, End)
+    ∷ (eqb (byteAt bytes at) beginCode, beginAt bytes at)
+    ∷ (eqb (byteAt bytes at) writeCode, Whole Write (at + 1))
+    ∷ (eqb (byteAt bytes at) readCode, Whole Read (at + 1))
+    ∷ [])
+    Broken
+
+-- the whole actions from a place on, one after the other, and the place where no whole action stands
+pub record Decoded : Type 0 where
+  pub actions : List Action
+  pub stop : ℕ
+
+abbrev pub stopped : ℕ → Decoded
+stopped at = record { actions = []; stop = at }
+
+abbrev pub before : Action → Decoded → Decoded
+before a d = record { actions = a ∷ d .actions; stop = d .stop }
+
+abbrev pub goOn : Coded → (ℕ → Decoded) → ℕ → Decoded
+goOn (Whole a next) rest at = before a (rest next)
+goOn Broken rest at = stopped at
+goOn End rest at = stopped at
+
+-- at most k actions
+abbrev pub decodedWithin : ℕ → List ℕ → ℕ → Decoded
+decodedWithin zero bytes at = stopped at
+decodedWithin (suc k) bytes at = goOn (codedAt bytes at) (decodedWithin k bytes) at
+
+-- each action has a byte at least, so there are no more than bytes are left: `decoded-whole` and `decoded-stops` (proofs/actions/Laws)
+unfoldable pub decodedFrom : List ℕ → ℕ → Decoded
+decodedFrom bytes at = decodedWithin (length bytes - at) bytes at
+
+abbrev pub decoded : List ℕ → Decoded
+decoded bytes = decodedFrom bytes 0
+
+-- ---- to bytes
+
+-- a number below 2^32 as four bytes, "low first"
+abbrev pub valueBytes : ℕ → List ℕ
+valueBytes v = v % 256 ∷ v / 256 % 256 ∷ v / 65536 % 256 ∷ v / 16777216 % 256 ∷ []
+
+abbrev pub coded : Action → List ℕ
+coded (Begin v) = beginCode ∷ valueBytes v
+coded Write = writeCode ∷ []
+coded Read = readCode ∷ []
+
+abbrev pub encoded : List Action → List ℕ
+encoded [] = []
+encoded (a ∷ rest) = coded a ++ encoded rest
