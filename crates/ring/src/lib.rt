@@ -27,5 +27,6 @@ pub use state::PageNo;
 pub use state::ReadingNo;
 pub use state::Receipt;
 pub use state::Refusal;
+pub use state::Replay;
 pub use state::Ring;
 pub use state::Step;

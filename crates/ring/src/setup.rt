@@ -2,7 +2,8 @@
 ghost use mathlib.Core.Path.{_≡_};
 ghost use Prim.Native.Nat.{_≤_};
 ghost use Rattle.ring.specs.Limits.{mostPages};
-ghost use Rattle.ring.specs.State.{blank};
+ghost use Rattle.ring.specs.State.{sizeOf, blank};
+ghost use Rattle.ring.specs.Shape.{sizeFits};
 ghost use Rattle.ring.specs.Answers.{outcome};
 ghost use Rattle.ring.specs.SetUp.{freshNext, freshFlag, freshWord, freshWords, freshRing, plainRing, freshRule};
 use crate::cells::wanting;
@@ -123,6 +124,13 @@ impl Ring {
             slots: Ring::PLAIN_SLOTS,
             mode: Ring::PLAIN_MODE,
         })
+    }
+
+    // Whether `fresh` accepts these: N, S and mode in range.
+    pub fn accepts(pages: u32, slots: u32, mode: u32) -> bool
+        ensures { λ r. ⌜ r ≡ sizeFits (sizeOf pages slots mode) ⌝ }
+    {
+        size_fits(Size { pages, slots, mode })
     }
 
     // The fresh ring with `pages` ring pages of `slots` slots, in mode 0 (overwrite) or 1 (stop); refused with the plain ring where one of the

@@ -164,6 +164,18 @@ pub struct Receipt {
     pub complete: bool,
 }
 
+// What a replay of actions gives back; their answers are in the room that was lent.
+pub struct Replay {
+    // after the last action made; the plain ring where none was begun
+    pub ring: Ring,
+    // Accepted, or why the replay was refused
+    pub answer: Answer,
+    // how many actions were made
+    pub made: usize,
+    // where they end: the place of the first byte after them
+    pub stop: usize,
+}
+
 // The limits, the sizes of the plain ring, the modes and the flags of a link word.
 impl Ring {
     pub const LEAST_PAGES: u32 = 2;
