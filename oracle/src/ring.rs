@@ -163,7 +163,7 @@ impl Ring {
     }
 
     /// "The plain ring is 8 pages of 16 slots in overwrite mode."
-    fn plain() -> Ring {
+    pub fn plain() -> Ring {
         Ring::made(8, 16, 0)
     }
 

@@ -89,6 +89,15 @@ pub fn code(answer: Answer) -> u32 {
     }
 }
 
+/// An answer's first and second value, "0 for a value that it does not have".
+pub fn values(answer: Answer) -> (u32, u32) {
+    match answer {
+        Answer::Begun(x) | Answer::Reserved(x) | Answer::Committed(x) => (x, 0),
+        Answer::Event(number, value) => (number, value),
+        _ => (0, 0),
+    }
+}
+
 /// The name with its values in brackets, as `Begun(1)` or `Event(1, 71)`.
 pub fn answer(answer: Answer) -> String {
     let name = NAMES[code(answer) as usize];
@@ -164,6 +173,16 @@ pub struct Tally {
 impl Tally {
     pub fn count(&mut self, answer: Answer) {
         self.times[code(answer) as usize] += 1;
+    }
+
+    /// Each kind of answer came, but those named.
+    pub fn all_but(&self, named: &[&str]) -> Result<(), String> {
+        for (name, times) in NAMES.iter().zip(self.times) {
+            if (times == 0) != named.contains(name) {
+                return Err(format!("{name} came {times} times"));
+            }
+        }
+        Ok(())
     }
 
     /// A line for each kind of answer that came at least once.
