@@ -11,15 +11,17 @@ use crate::draws::Generator;
 use crate::ring::{Action, Answer, Ring};
 use crate::samples;
 use crate::text::{self, Tally};
-use crate::trace::{self, Replay, TraceRefusal, LONGEST};
+use crate::trace::{self, Replay, TraceRefusal};
 
+/// "A file has at most 65,536 bytes"; not taken from `trace`, which is tested here.
+const LONGEST: usize = 65_536;
 /// Bytes of the header: mark, version, N, S, mode.
 const HEADER: usize = 8;
 /// Histories with more actions than this are not held to demand 3, which looks at
 /// every reading after every action.
 const HELD: usize = 5000;
 
-/// What must come of a trace: its first `made` actions, then the refusal.
+/// What must come of a trace: the actions made with their answers, then the refusal.
 struct Due {
     made: Vec<(Action, Answer)>,
     refusal: Option<TraceRefusal>,
