@@ -60,6 +60,7 @@ pub fn refusal_number(refusal: Refusal) -> u32 {
 }
 
 /// An answer's code, its place in `NAMES`.
+#[inline]
 pub fn code(answer: Answer) -> u32 {
     match answer {
         Answer::Accepted => 0,
@@ -90,6 +91,7 @@ pub fn code(answer: Answer) -> u32 {
 }
 
 /// An answer's first and second value, "0 for a value that it does not have".
+#[inline]
 pub fn values(answer: Answer) -> (u32, u32) {
     match answer {
         Answer::Begun(x) | Answer::Reserved(x) | Answer::Committed(x) => (x, 0),
