@@ -164,6 +164,19 @@ const K: [(&str, &[Line]); 12] = [
     ),
 ];
 
+/// The actions of the cases `names`, one case after the other, with 01's answers.
+pub fn steps(names: &[&str]) -> Vec<(Action, Answer)> {
+    let mut steps = Vec::new();
+    for (_, lines) in K.iter().filter(|(name, _)| names.contains(name)) {
+        for line in *lines {
+            if let Act(action, answer) = *line {
+                steps.push((action, answer));
+            }
+        }
+    }
+    steps
+}
+
 /// The whole text of `cases`, or what differs from 01.
 pub fn run() -> Result<String, String> {
     let mut out = String::new();

@@ -88,11 +88,7 @@ impl Digest {
     /// "its code, then its first and its second value, 0 for a value that it does
     /// not have".
     pub fn answer(&mut self, answer: Answer) {
-        let (first, second) = match answer {
-            Answer::Begun(x) | Answer::Reserved(x) | Answer::Committed(x) => (x, 0),
-            Answer::Event(number, value) => (number, value),
-            _ => (0, 0),
-        };
+        let (first, second) = text::values(answer);
         self.fold_all(&[text::code(answer), first, second]);
     }
 

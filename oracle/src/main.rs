@@ -1,29 +1,55 @@
 //! The ring's rules a second time, written from document 01 and not from the
-//! ring's code; where 01 leaves a point open, by docs/DECISIONS.md. `oracle cases`
-//! and `oracle random` print the text of docs/PROGRAMS.md.
+//! ring's code; where 01 leaves a point open, by docs/DECISIONS.md. The trace's are
+//! from request E1 of document 02. `oracle cases`, `oracle random` and `oracle replay`
+//! print the text of docs/PROGRAMS.md; `oracle samples` and `oracle traces` write
+//! files for `replay`.
 
+mod builder;
 mod cases;
 mod demand;
 mod draws;
 mod random;
+mod replay;
 mod ring;
+mod samples;
 mod states;
 mod text;
+mod trace;
+mod traces;
 
 use std::env;
+use std::ffi::OsString;
 use std::io::{self, Write};
+use std::path::Path;
 use std::process::ExitCode;
+
+const USAGE: &str = "usage: oracle cases, random, replay FILE.., samples DIR or traces DIR";
 
 fn main() -> ExitCode {
     let arguments: Vec<_> = env::args_os().skip(1).collect();
     let text = match arguments.as_slice() {
         [program] if program == "cases" => cases::run(),
         [program] if program == "random" => random::run(),
-        _ => return fail("usage: oracle cases, or oracle random", 2),
+        [program, files @ ..] if program == "replay" => return replay(files),
+        [program, dir] if program == "samples" => samples::run(Path::new(dir)),
+        [program, dir] if program == "traces" => traces::run(Path::new(dir)),
+        _ => return fail(USAGE, 2),
     };
     match text {
         Ok(text) => print(&text),
         Err(differs) => fail(&differs, 1),
+    }
+}
+
+fn replay(files: &[OsString]) -> ExitCode {
+    if files.is_empty() {
+        let _ = writeln!(io::stderr(), "replay: no file is named");
+        return ExitCode::from(2);
+    }
+    match replay::run(files) {
+        Ok(true) => ExitCode::SUCCESS,
+        Ok(false) => ExitCode::from(1),
+        Err(error) => fail(&format!("standard output: {error}"), 1),
     }
 }
 

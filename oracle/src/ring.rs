@@ -163,7 +163,7 @@ impl Ring {
     }
 
     /// "The plain ring is 8 pages of 16 slots in overwrite mode."
-    fn plain() -> Ring {
+    pub fn plain() -> Ring {
         Ring::made(8, 16, 0)
     }
 
@@ -283,6 +283,7 @@ impl Ring {
     }
 
     /// The same on a ring that is known to be in shape.
+    #[inline]
     pub fn act_in_shape(&mut self, action: Action) -> Answer {
         match action {
             Action::Begin(value) => self.begin(value),
@@ -293,6 +294,7 @@ impl Ring {
 
     /// "Begin(v): begun + 1, a new record on top in phase WANT. Answer Begun(new
     /// depth)." Refusals: "2 before 4".
+    #[inline]
     fn begin(&mut self, value: u32) -> Answer {
         if self.depth == 4 {
             return Answer::Refused(Refusal::Depth);
@@ -310,6 +312,7 @@ impl Ring {
     }
 
     /// "Write moves the top record by one step."
+    #[inline]
     fn write(&mut self) -> Answer {
         if self.depth == 0 {
             return Answer::Refused(Refusal::Nobody);
@@ -331,12 +334,14 @@ impl Ring {
     }
 
     /// The top record goes into a phase and the step has an answer.
+    #[inline]
     fn step(&mut self, phase: Phase, answer: Answer) -> Answer {
         let top = self.top();
         self.records[top].phase = phase;
         answer
     }
 
+    #[inline]
     fn pop(&mut self) {
         let top = self.top();
         self.records[top] = UNUSED;
@@ -351,6 +356,7 @@ impl Ring {
     /// "WANT, tail page t with used < S: slot used gets the number taken; taken +
     /// 1, used + 1; phase HELD (t, slot). Answer Reserved(number). The slot's old
     /// value stays."
+    #[inline]
     fn want(&mut self) -> Answer {
         let t = self.tail_page;
         let slot = self.used[t as usize];
@@ -366,6 +372,7 @@ impl Ring {
     }
 
     /// "WANT, t full: n is the page in t's word. First that applies:" a to f.
+    #[inline]
     fn look(&mut self, t: u32) -> Answer {
         let n = page_in(self.words[t as usize]);
         let flag = flag_in(self.words[t as usize]);
@@ -395,6 +402,7 @@ impl Ring {
     /// n's used, n's used becomes 0, all in one step; PROMOTE (t, n, own). Answer
     /// Marked. If it is n UPDATE: PROMOTE (t, n, not own). Answer Shared. Otherwise
     /// WANT, answer Retry."
+    #[inline]
     fn mark(&mut self, t: u32, n: u32) -> Answer {
         let seen = self.words[t as usize];
         if seen == word(n, HEADER) {
@@ -412,6 +420,7 @@ impl Ring {
     /// "PROMOTE: if no page other than the reader page has a HEADER word, n's word
     /// becomes HEADER, same page; answer Promoted. Else nothing; answer Standing.
     /// ... Then CLEAR if own, else PUSH."
+    #[inline]
     fn promote(&mut self, t: u32, n: u32, own: bool) -> Answer {
         let after = if own {
             Phase::Clear { t, n }
@@ -432,6 +441,7 @@ impl Ring {
     }
 
     /// "CLEAR: t's word, if n UPDATE, becomes n NORMAL. Answer Cleared; PUSH."
+    #[inline]
     fn clear(&mut self, t: u32, n: u32) -> Answer {
         if self.words[t as usize] == word(n, UPDATE) {
             self.words[t as usize] = word(n, NORMAL);
@@ -441,6 +451,7 @@ impl Ring {
 
     /// "PUSH: if the tail page is t, it becomes n, answer Pushed; else answer
     /// Passed. Then WANT."
+    #[inline]
     fn push(&mut self, t: u32, n: u32) -> Answer {
         if self.tail_page == t {
             self.tail_page = n;
@@ -451,6 +462,7 @@ impl Ring {
     }
 
     /// "HELD: the value goes into the slot; phase FILLED. Answer Filled."
+    #[inline]
     fn fill(&mut self, page: u32, slot: u32) -> Answer {
         let place = self.place(page, slot);
         self.values[place] = self.records[self.top()].value;
@@ -460,6 +472,7 @@ impl Ring {
     /// "FILLED: record popped. At depth 1 before the pop, the commit page becomes
     /// the tail page, the commit index that page's used, committed becomes taken:
     /// answer Committed(committed). Deeper: answer Pending."
+    #[inline]
     fn finish(&mut self) -> Answer {
         let outermost = self.depth == 1;
         self.pop();
@@ -473,6 +486,7 @@ impl Ring {
     }
 
     /// "Read" in its three phases.
+    #[inline]
     fn read(&mut self) -> Answer {
         match self.reader {
             Reader::Idle => self.idle(),
@@ -486,6 +500,7 @@ impl Ring {
     /// answer Event(number, value). Else, commit page is reader page: Empty. Else,
     /// the lowest page p ..., h its page: FOUND (p, h), answer Found. No such page:
     /// Busy."
+    #[inline]
     fn idle(&mut self) -> Answer {
         let at_commit = self.commit_page == self.reader_page;
         let limit = if at_commit {
@@ -514,6 +529,7 @@ impl Ring {
 
     /// "FOUND: the reader page's word becomes (page in h's word) HEADER. READY,
     /// answer Prepared."
+    #[inline]
     fn found(&mut self, p: u32, h: u32) -> Answer {
         let next = page_in(self.words[h as usize]);
         self.words[self.reader_page as usize] = word(next, HEADER);
@@ -524,6 +540,7 @@ impl Ring {
     /// "READY: if p's word is h HEADER, it becomes (reader page) NORMAL; the old
     /// reader page's used becomes 0; h is the reader page; position 0. Answer
     /// Swapped. Else answer Missed. Either way IDLE."
+    #[inline]
     fn ready(&mut self, p: u32, h: u32) -> Answer {
         self.reader = Reader::Idle;
         if self.words[p as usize] != word(h, HEADER) {

@@ -60,6 +60,7 @@ pub fn refusal_number(refusal: Refusal) -> u32 {
 }
 
 /// An answer's code, its place in `NAMES`.
+#[inline]
 pub fn code(answer: Answer) -> u32 {
     match answer {
         Answer::Accepted => 0,
@@ -86,6 +87,16 @@ pub fn code(answer: Answer) -> u32 {
         Answer::Swapped => 21,
         Answer::Missed => 22,
         Answer::Refused(refusal) => 22 + refusal_number(refusal),
+    }
+}
+
+/// An answer's first and second value, "0 for a value that it does not have".
+#[inline]
+pub fn values(answer: Answer) -> (u32, u32) {
+    match answer {
+        Answer::Begun(x) | Answer::Reserved(x) | Answer::Committed(x) => (x, 0),
+        Answer::Event(number, value) => (number, value),
+        _ => (0, 0),
     }
 }
 
@@ -164,6 +175,16 @@ pub struct Tally {
 impl Tally {
     pub fn count(&mut self, answer: Answer) {
         self.times[code(answer) as usize] += 1;
+    }
+
+    /// Each kind of answer came, but those named.
+    pub fn all_but(&self, named: &[&str]) -> Result<(), String> {
+        for (name, times) in NAMES.iter().zip(self.times) {
+            if (times == 0) != named.contains(name) {
+                return Err(format!("{name} came {times} times"));
+            }
+        }
+        Ok(())
     }
 
     /// A line for each kind of answer that came at least once.
