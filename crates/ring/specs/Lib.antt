@@ -15,6 +15,7 @@ pub mod Pieces
 pub mod Receipt
 pub mod Act
 pub mod Actions
+pub mod Change
 pub mod Replay
 pub mod Remember
 pub mod History

@@ -13,6 +13,7 @@ use Rattle.ring.specs.Shape.{sizeFits}
 use Rattle.ring.specs.SetUp.{freshRing, plainRing}
 use Rattle.ring.specs.Act.{act}
 use Rattle.ring.specs.Actions.{Decoded, decoded}
+use Rattle.ring.specs.declared.codes.Numbers.{Numbers}
 use Rattle.ring.specs.declared.state.Size.{Size}
 use Rattle.ring.specs.declared.state.Refusal.{Refusal}
 use Rattle.ring.specs.declared.state.Refusal.the-variants.{SetUp, Room}
@@ -46,8 +47,8 @@ abbrev pub over : List ℕ → List ℕ → List ℕ
 over front old = front ++ drop (length front) old
 
 -- one answer laid at a place
-abbrev pub laidAt : List ℕ → ℕ → Answer → List ℕ
-laidAt room at a = set (set (set room at (numbersOf a .code)) (at + 1) (numbersOf a .first)) (at + 2) (numbersOf a .second)
+abbrev pub laidAt : List ℕ → ℕ → Numbers → List ℕ
+laidAt room at n = set (set (set room at (n .code)) (at + 1) (n .first)) (at + 2) (n .second)
 
 -- ---- what a replay gives back
 

@@ -13,7 +13,7 @@ use crate::state::Ring;
 use crate::state::Step;
 
 // Whether a Begin is made or refused; `fit` says whether the ring is in shape.
-fn begin_verdict(fit: bool, depth: u32, begun: u64) -> Verdict
+pub(crate) fn begin_verdict(fit: bool, depth: u32, begun: u64) -> Verdict
     ensures { λ r. ⌜ r ≡ beginVerdict fit depth begun ⌝ }
 {
     if !fit {

@@ -15,6 +15,8 @@ pub mod read; // Read
 pub mod receipt; // the receipt
 pub mod act; // any of the three
 pub mod actions; // actions as bytes
+pub mod change; // what an action of any kind stores
+pub mod replay; // actions in bytes, made one by one in place
 
 // what a caller names
 pub use actions::Coded;

@@ -1,8 +1,13 @@
 // What an action decides from the pieces of the ring, before anything is stored.
+use crate::codes::Numbers;
 use crate::state::Answer;
+use crate::state::Counts;
 use crate::state::PageNo;
+use crate::state::Places;
+use crate::state::Reader;
 use crate::state::ReadingNo;
 use crate::state::Refusal;
+use crate::state::Writer;
 use crate::state::WriterPhase;
 
 // Whether an action is made or refused.
@@ -65,4 +70,17 @@ pub enum Fetch {
     // p, h
     Swap(PageNo, PageNo),
     Miss,
+}
+
+// All that an action of any kind leaves: its answer, and each piece of the ring as it then is. A piece that stays is stored as it was.
+pub struct Change {
+    pub answer: Numbers,
+    // a place of the stack, and the record that it gets
+    pub top: usize,
+    pub writer: Writer,
+    pub counts: Counts,
+    pub places: Places,
+    pub depth: u32,
+    pub reader: Reader,
+    pub stores: Stores,
 }

@@ -179,7 +179,7 @@ pub(crate) fn plan_phase<'a>(
 }
 
 // Whether a Write is made or refused; `fit` says whether the ring is in shape.
-fn write_verdict(fit: bool, depth: u32) -> Verdict
+pub(crate) fn write_verdict(fit: bool, depth: u32) -> Verdict
     ensures { λ r. ⌜ r ≡ writeVerdict fit depth ⌝ }
 {
     if !fit {

@@ -1,4 +1,4 @@
--- A verdict is not both of its kinds. And what holds in an arm of a match on a Move or a Fetch that is for several variants, as `_ => ..`: there it is known by the
+-- A verdict is not both of its kinds. And what holds in an arm of a match on a Move, a Fetch or Stores that is for several variants, as `_ => ..`: there it is known by the
 -- numbers of these variants, and a fact of each of them is a fact of it.
 -- Assumes nothing.
 use mathlib.Core.Path.{_≡_}
@@ -18,8 +18,12 @@ use Rattle.ring.specs.declared.moves.Move.{Move}
 use Rattle.ring.specs.declared.moves.Move.the-variants.{Become, Reserve, Drop, Mark, Promote, Clear, Push, Fill, Pend, Commit}
 use Rattle.ring.specs.declared.moves.Fetch.{Fetch}
 use Rattle.ring.specs.declared.moves.Fetch.the-variants as fetch
+use Rattle.ring.specs.declared.state.ReadingNo.{ReadingNo}
+use Rattle.ring.specs.declared.moves.Stores.{Stores}
+use Rattle.ring.specs.declared.moves.Stores.the-variants as stores
 use Rattle.ring.proofs.moves.Move as move-type
 use Rattle.ring.proofs.moves.Fetch as fetch-type
+use Rattle.ring.proofs.moves.Stores as stores-type
 
 pub refused-is-not-allowed : (why : Refusal) → Refused why ≡ Allowed → ⊥
 refused-is-not-allowed why h = let z : _≡_ {A = ℕ} 0 1 = cc in omega arith
@@ -97,3 +101,26 @@ module _ (P : Fetch → Type 0) where
 
   pub fetch-of-numbers : (ks : List ℕ) (f : Fetch) → Ats FetchAt ks → OneOf ks (tagOf fetch-type.the-type f) → P f
   fetch-of-numbers = of-one P FetchAt (tagOf fetch-type.the-type) of-fetch
+
+module _ (P : Stores → Type 0) where
+  abbrev StoresAt : ℕ → Type 0
+  StoresAt k =
+      getD
+      (P stores.Same
+      ∷ ((at : ℕ) (number : ReadingNo) (t : PageNo) (used : ℕ) → P (stores.Number at number t used))
+      ∷ ((t : PageNo) (word : ℕ) (n : PageNo) → P (stores.Take t word n))
+      ∷ ((p : PageNo) (word : ℕ) → P (stores.Word p word))
+      ∷ ((at value : ℕ) → P (stores.Value at value))
+      ∷ [])
+      k
+      (Unit {0})
+
+  of-stores : (s : Stores) → StoresAt (tagOf stores-type.the-type s) → P s
+  of-stores stores.Same q = q
+  of-stores (stores.Number at number t used) q = q at number t used
+  of-stores (stores.Take t word n) q = q t word n
+  of-stores (stores.Word p word) q = q p word
+  of-stores (stores.Value at value) q = q at value
+
+  pub stores-of-numbers : (ks : List ℕ) (s : Stores) → Ats StoresAt ks → OneOf ks (tagOf stores-type.the-type s) → P s
+  stores-of-numbers = of-one P StoresAt (tagOf stores-type.the-type) of-stores

@@ -10,13 +10,14 @@ use types.Run.{OneOf}
 use denote.Enum.Declared.{tagOf}
 use borrow.Author.Tests.{ne-eqb}
 use lib.ListN.{set}
-use Rattle.ring.specs.Limits.{mostPages, mostSlots, slotRoom}
+use Rattle.ring.specs.Limits.{mostPages, mostSlots}
 use Rattle.ring.specs.State.{withStack, withCounts, withPlaces, withDepth, withReader, withHanded, top}
 use Rattle.ring.specs.Shape.{inShape}
 use Rattle.ring.specs.Answers.{Outcome, gives}
 use Rattle.ring.specs.Write.{moved, planWrite, writeRule}
 use Rattle.ring.specs.Read.{fetched, planRead, readRule}
 use Rattle.ring.specs.Pieces.{answerAfter, countsAfter, placesAfter, depthAfter, recordAfter, storesAfter, readAnswer, readHanded, readPlaces, readPhase, readStores, stored, MoveFits, FetchFits}
+use Rattle.ring.specs.Change.{StoresFit}
 use Rattle.ring.specs.declared.state.PageNo.{PageNo}
 use Rattle.ring.specs.declared.state.Size.{Size}
 use Rattle.ring.specs.declared.state.Places.{Places}
@@ -34,14 +35,6 @@ use Rattle.ring.specs.declared.moves.Stores.the-variants as stores
 use Rattle.ring.proofs.moves.Stores.{the-type}
 use Rattle.ring.proofs.state.Laws.{slotIndex-room}
 use Rattle.ring.proofs.write.Laws.{Allows}
-
--- the cells named are within the arrays
-abbrev pub StoresFit : Stores → Type 0
-StoresFit stores.Same = Unit {0}
-StoresFit (stores.Number at number t used) = (at < slotRoom) × (t .0 ≤ mostPages)
-StoresFit (stores.Take t word n) = (t .0 ≤ mostPages) × (n .0 ≤ mostPages)
-StoresFit (stores.Word p word) = p .0 ≤ mostPages
-StoresFit (stores.Value at value) = at < slotRoom
 
 -- ---- Write
 

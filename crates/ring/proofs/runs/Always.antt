@@ -28,7 +28,7 @@ action-next s h g (action.Begin v) = begin-next v s h g
 action-next s h g action.Write = write-next 0 s h g
 action-next s h g action.Read = read-next 0 s h g
 
-after-invariant : (actions : List Action) (r : Run) → Invariant (r .now) (r .past) → Invariant (after r actions .now) (after r actions .past)
+pub after-invariant : (actions : List Action) (r : Run) → Invariant (r .now) (r .past) → Invariant (after r actions .now) (after r actions .past)
 after-invariant [] r g = g
 after-invariant (a ∷ rest) r g = after-invariant rest (next r a) (action-next (r .now) (r .past) g a)
 

@@ -14,11 +14,12 @@ use Rattle.ring.specs.Refusals.{readVerdict}
 use Rattle.ring.specs.Shape.{inShape}
 use Rattle.ring.specs.Read.{planRead, readRule}
 use Rattle.ring.specs.Pieces.{FetchFits}
+use Rattle.ring.specs.Change.{StoresFit}
 use Rattle.ring.specs.declared.state.Ring.{Ring}
 use Rattle.ring.specs.declared.moves.Stores.the-variants.{Same}
 use Rattle.ring.proofs.shape.Laws.{InShape, in-shape, tested-inShape}
 use Rattle.ring.proofs.read.Laws.{allows, plan-fits, event-fits}
-use Rattle.ring.proofs.pieces.Laws.{StoresFit, readLeaves, read-leaves, read-stores-fit, read-stores-same}
+use Rattle.ring.proofs.pieces.Laws.{readLeaves, read-leaves, read-stores-fit, read-stores-same}
 use Rattle.ring.proofs.state.Ring.read.Statement.{statement}
 use Rattle.ring.proofs.state.Ring.read.Tie as tie
 

@@ -1,0 +1,2 @@
+-- What the proofs of a change share.
+pub mod Laws

@@ -1,0 +1,164 @@
+-- The pieces that an action of any kind leaves, stored, are the action: `change-acts`. And a ring in shape has what the code asks of its pieces. Each by the action,
+-- from the laws of Write and Read; a record, a count or a cell that stays is stored as it was. Assumes nothing.
+use mathlib.Core.Path.{_≡_, refl, sym, ap, _∙_}
+use mathlib.Core.Bool.{true}
+use mathlib.Core.List.{List}
+use Prim.Native.Nat.{ℕ, _-_, _≤_, _<_}
+use native.Mathlib.Omega.{arith}
+use borrow.Author.Tests.{eqb-false}
+use lib.Dec.{eqb}
+use lib.ListN.{set}
+use lib.Seq.{set-getD}
+use Rattle.ring.specs.Limits.{mostDepth, mostCount}
+use Rattle.ring.specs.State.{noWriter, withStack, top}
+use Rattle.ring.specs.Answers.{Outcome}
+use Rattle.ring.specs.Codes.{numbersOf}
+use Rattle.ring.specs.Refusals.{beginVerdict, writeVerdict, judged}
+use Rattle.ring.specs.Shape.{inShape}
+use Rattle.ring.specs.Begin.{begin}
+use Rattle.ring.specs.Write.{moved, planWrite}
+use Rattle.ring.specs.Read.{fetched, planRead}
+use Rattle.ring.specs.Act.{act}
+use Rattle.ring.specs.Change.{judgedChange, begunChange, movedChange, fetchedChange, changeOf, changed, StoresFit, MovedFits, WriteFits, ReadFits, ChangeFits}
+use Rattle.ring.specs.declared.state.Writer.{Writer}
+use Rattle.ring.specs.declared.state.Refusal.{Refusal}
+use Rattle.ring.specs.declared.state.Refusal.the-variants.{Depth, Nobody, Worn}
+use Rattle.ring.specs.declared.state.Action.{Action}
+use Rattle.ring.specs.declared.state.Action.the-variants.{Begin, Write, Read}
+use Rattle.ring.specs.declared.state.Ring.{Ring}
+use Rattle.ring.specs.declared.moves.Verdict.{Verdict}
+use Rattle.ring.specs.declared.moves.Verdict.the-variants.{Allowed, Refused}
+use Rattle.ring.specs.declared.moves.Move.{Move}
+use Rattle.ring.specs.declared.moves.Move.the-variants.{Become, Reserve, Drop, Mark, Promote, Clear, Push, Fill, Pend, Commit}
+use Rattle.ring.specs.declared.moves.Fetch.{Fetch}
+use Rattle.ring.specs.declared.moves.Fetch.the-variants as fetch
+use Rattle.ring.specs.declared.moves.Change.{Change}
+use Rattle.ring.proofs.Lists.{by-cond}
+use Rattle.ring.proofs.shape.Laws.{InShape}
+use Rattle.ring.proofs.write.Laws.{top-fits, plan-fits}
+use Rattle.ring.proofs.read.Laws as read
+use Rattle.ring.proofs.pieces.Laws.{stores-fit, read-stores-fit}
+
+-- ---- the pieces stored are the action
+
+-- an outcome and a change of the ring r tell the same
+pub record Agrees (r : Ring) (o : Outcome) (c : Change) : Type 0 where
+  pub ring : o .ring ≡ changed c r
+  pub answer : numbersOf (o .answer) ≡ c .answer
+
+module _ (r : Ring) where
+  -- the top record stored as it was
+  same-stack : r .stack ≡ set (r .stack) (r .depth - 1) (top r)
+  same-stack = sym (set-getD (r .stack) (r .depth - 1) noWriter)
+
+  judged-agrees :
+      (v : Verdict) (o : Outcome) (c : Change) →
+      Agrees r o c →
+      Agrees r (judged v r o) (judgedChange v (top r) (r .places) (r .counts) (r .depth) (r .reader) c)
+  judged-agrees Allowed o c h = h
+  judged-agrees (Refused why) o c h = record { ring = ap (λ (st : List Writer). withStack st r) same-stack; answer = refl }
+
+  moved-agrees : (m : Move) → Agrees r (moved m r) (movedChange m (top r) (r .size) (r .places) (r .counts) (r .depth) (r .reader) (r .words) (r .used))
+  moved-agrees (Become next a) = record { ring = refl; answer = refl }
+  moved-agrees (Reserve t slot) = record { ring = refl; answer = refl }
+  moved-agrees Drop = record { ring = refl; answer = refl }
+  moved-agrees (Mark t n) = record { ring = refl; answer = refl }
+  moved-agrees (Promote n next) = record { ring = refl; answer = refl }
+  moved-agrees (Clear t n) = record { ring = refl; answer = refl }
+  moved-agrees (Push n) = record { ring = refl; answer = refl }
+  moved-agrees (Fill p slot) = record { ring = refl; answer = refl }
+  moved-agrees Pend = record { ring = refl; answer = refl }
+  moved-agrees Commit = record { ring = refl; answer = refl }
+
+  -- what a Read leaves, with the stack as it was
+  kept : (f : Fetch) → withStack (r .stack) (fetched f r .ring) ≡ withStack (set (r .stack) (r .depth - 1) (top r)) (fetched f r .ring)
+  kept f = ap (λ (st : List Writer). withStack st (fetched f r .ring)) same-stack
+
+  fetched-agrees : (f : Fetch)
+      → Agrees r (fetched f r) (fetchedChange f (top r) (r .size) (r .places) (r .counts) (r .depth) (r .reader) (r .words) (r .numbers) (r .values))
+  fetched-agrees fetch.Event = record { ring = kept fetch.Event; answer = refl }
+  fetched-agrees fetch.Empty = record { ring = kept fetch.Empty; answer = refl }
+  fetched-agrees fetch.Busy = record { ring = kept fetch.Busy; answer = refl }
+  fetched-agrees (fetch.Find p h) = record { ring = kept (fetch.Find p h); answer = refl }
+  fetched-agrees (fetch.Prepare p h) = record { ring = kept (fetch.Prepare p h); answer = refl }
+  fetched-agrees (fetch.Swap p h) = record { ring = kept (fetch.Swap p h); answer = refl }
+  fetched-agrees fetch.Miss = record { ring = kept fetch.Miss; answer = refl }
+
+  pub change-acts : inShape r ≡ true → (a : Action) → Agrees r (act r a) (changeOf r a)
+  change-acts shape (Begin v) =
+      rw shape
+      (judged-agrees (beginVerdict true (r .depth) (r .counts .begun)) (begin v r) (begunChange v (r .places) (r .counts) (r .depth) (r .reader)) (record { ring = refl; answer = refl }))
+  change-acts shape Write = rw shape (judged-agrees (writeVerdict true (r .depth)) (moved (planWrite r) r) _ (moved-agrees (planWrite r)))
+  change-acts shape Read = rw shape (fetched-agrees (planRead r))
+
+-- ---- what the code asks of the pieces
+
+module _ (r : Ring) (s : InShape r) where
+  pub change-fits : (a : Action) → ChangeFits a (top r) (r .size) (r .places) (r .counts) (r .depth) (r .reader) (r .words) (r .used)
+  change-fits (Begin v) = (s .depth, s .begun)
+  change-fits Write =
+      record {
+        pages = s .pages-most;
+        tail = omega (arith, s);
+        phase = λ n. top-fits r s n;
+        moved = λ n.
+          record {
+            move = plan-fits r s n;
+            tail = omega (arith, s);
+            taken = s .taken;
+            overwritten = s .overwritten;
+            dropped = s .dropped;
+            somebody = omega (arith, n);
+          };
+      }
+  change-fits Read =
+      record {
+        pages = s .pages-most;
+        page = omega (arith, s);
+        position = omega (arith, s);
+        handed = s .handed;
+        phase = s .phase;
+        fetch = read.plan-fits r s;
+        event = read.event-fits r s;
+      }
+
+  -- the change c where the verdict v allows it
+  abbrev judged-by : Change → Verdict → Change
+  judged-by c v = judgedChange v (top r) (r .places) (r .counts) (r .depth) (r .reader) c
+
+  abbrev begun-by : ℕ → Change
+  begun-by v = begunChange v (r .places) (r .counts) (r .depth) (r .reader)
+
+  abbrev moved-by : Change
+  moved-by = movedChange (planWrite r) (top r) (r .size) (r .places) (r .counts) (r .depth) (r .reader) (r .words) (r .used)
+
+  -- the place of the record that is stored is one of the stack's
+  top-refused : (c : Change) (why : Refusal) → judged-by c (Refused why) .top < mostDepth
+  top-refused c why = omega (arith, s)
+
+  pub change-top : (a : Action) → changeOf r a .top < mostDepth
+  change-top (Begin v) =
+      by-cond (λ (w : Verdict). judged-by (begun-by v) w .top < mostDepth) (eqb (r .depth) mostDepth)
+      (λ e. top-refused (begun-by v) Depth)
+      (λ e.
+      let n = eqb-false (r .depth) mostDepth e in
+      by-cond (λ (w : Verdict). judged-by (begun-by v) w .top < mostDepth) (eqb (r .counts .begun) mostCount)
+      (λ e. top-refused (begun-by v) Worn)
+      (λ e. omega (arith, s, n)))
+  change-top Write =
+      by-cond (λ (w : Verdict). judged-by moved-by w .top < mostDepth) (eqb (r .depth) 0)
+      (λ e. top-refused moved-by Nobody)
+      (λ e. omega (arith, s))
+  change-top Read = omega (arith, s)
+
+  -- the cells are within the arrays; a refusal stores to none
+  pub change-stores : (a : Action) → StoresFit (changeOf r a .stores)
+  change-stores (Begin v) =
+      by-cond (λ (w : Verdict). StoresFit (judged-by (begun-by v) w .stores)) (eqb (r .depth) mostDepth)
+      (λ e. tt)
+      (λ e. by-cond (λ (w : Verdict). StoresFit (judged-by (begun-by v) w .stores)) (eqb (r .counts .begun) mostCount) (λ e. tt) (λ e. tt))
+  change-stores Write =
+      by-cond (λ (w : Verdict). StoresFit (judged-by moved-by w .stores)) (eqb (r .depth) 0)
+      (λ e. tt)
+      (λ e. stores-fit (r .size) (r .counts .taken) (top r .value) (r .words) (s .slots-most) (planWrite r) (plan-fits r s (eqb-false (r .depth) 0 e)))
+  change-stores Read = read-stores-fit (r .places .reader) (r .words) (planRead r) (read.plan-fits r s) (omega (arith, s))

@@ -1,0 +1,192 @@
+-- What a loop that makes the actions of some bytes keeps: `Progress`. At its start nothing is done; each turn makes one action more, and where no whole action stands
+-- all is done that the definition asks. The ring of each turn is in shape, since it is reached from a set-up.
+-- Assumes nothing.
+use mathlib.Core.Path.{_≡_, refl, sym, ap, _∙_, subst}
+use mathlib.Core.Bool.{true}
+use mathlib.Core.List.{List, [], _∷_, _++_, append-nil}
+use Prim.Native.Nat.{ℕ, suc, _+_, _*_, _≤_, _<_}
+use native.Mathlib.Omega.{arith}
+use lib.ListN.{length, drop, length-append, length-drop}
+use lib.Seq.{append-snoc, sets, sets-eq, take-at, drop-append-add, drop-drop}
+use Rattle.ring.specs.Answers.{Outcome}
+use Rattle.ring.specs.Codes.{numbersOf}
+use Rattle.ring.specs.Shape.{sizeFits, inShape}
+use Rattle.ring.specs.SetUp.{freshRing}
+use Rattle.ring.specs.Act.{act}
+use Rattle.ring.specs.Actions.{Decoded, before, stopped, codedAt, decoded, decodedFrom}
+use Rattle.ring.specs.History.{Run, nothing, next, after}
+use Rattle.ring.specs.Change.{changeOf, changed}
+use Rattle.ring.specs.Replay.{ringAfter, answersOf, answerNumbers, laid, over, laidAt, replay, ran, ranRoom, Reached}
+use Rattle.ring.specs.declared.codes.Numbers.{Numbers}
+use Rattle.ring.specs.declared.state.Size.{Size}
+use Rattle.ring.specs.declared.state.Action.{Action}
+use Rattle.ring.specs.declared.state.Answer.{Answer}
+use Rattle.ring.specs.declared.state.Answer.the-variants.{Accepted}
+use Rattle.ring.specs.declared.state.Ring.{Ring}
+use Rattle.ring.specs.declared.actions.Coded.the-variants.{Whole}
+use Rattle.ring.proofs.actions.Laws.{whole-moves, decoded-whole}
+use Rattle.ring.proofs.change.Laws.{Agrees, change-acts}
+use Rattle.ring.proofs.demand.Shape.{invariant-inShape}
+use Rattle.ring.proofs.runs.Always.{after-invariant}
+use Rattle.ring.proofs.runs.Fresh.{fresh-invariant}
+use Rattle.ring.proofs.runs.Invariant.{Invariant}
+
+-- ---- a list of actions, and one more
+
+abbrev one : Action → List Action
+one a = a ∷ []
+
+after-more : (r : Ring) (done : List Action) (a : Action) → ringAfter r (done ++ one a) ≡ act (ringAfter r done) a .ring
+after-more r [] a = refl
+after-more r (b ∷ done) a = after-more (act r b .ring) done a
+
+after-append : (r : Ring) (past done : List Action) → ringAfter r (past ++ done) ≡ ringAfter (ringAfter r past) done
+after-append r [] done = refl
+after-append r (a ∷ past) done = after-append (act r a .ring) past done
+
+answers-more : (r : Ring) (done : List Action) (a : Action) → answersOf r (done ++ one a) ≡ answersOf r done ++ (act (ringAfter r done) a .answer ∷ [])
+answers-more r [] a = refl
+answers-more r (b ∷ done) a = ap (λ (l : List Answer). act r b .answer ∷ l) (answers-more (act r b .ring) done a)
+
+-- the three numbers of an answer
+abbrev three : Numbers → List ℕ
+three n = n .code ∷ n .first ∷ n .second ∷ []
+
+laid-more : (answers : List Answer) (a : Answer) → laid (answers ++ (a ∷ [])) ≡ laid answers ++ three (numbersOf a)
+laid-more [] a = refl
+laid-more (b ∷ answers) a =
+    ap (λ (l : List ℕ). numbersOf b .code ∷ numbersOf b .first ∷ numbersOf b .second ∷ l) (laid-more answers a)
+
+laid-length : (r : Ring) (done : List Action) → length (laid (answersOf r done)) ≡ answerNumbers * length done
+laid-length r [] = refl
+laid-length r (a ∷ done) =
+    let l = laid-length (act r a .ring) done in
+    omega arith
+
+-- ---- the room
+
+-- one answer more laid after a front that is filled
+module _ (front old : List ℕ) (n : Numbers) (fits : length front + 3 ≤ length old) where
+  filled-length : length (over front old) ≡ length old
+  filled-length = simp (length-append, length-drop) (omega arith)
+
+  rest-left : drop (length front + 3) (over front old) ≡ drop (length front + 3) old
+  rest-left = drop-append-add front (drop (length front) old) 3 ∙ drop-drop 3 (length front) old
+
+  -- the code's places are those of a run of stores
+  as-sets : laidAt (over front old) (length front) n ≡ sets (over front old) (length front) (three n)
+  as-sets =
+      let e1 : length front + 1 ≡ suc (length front) = omega arith in
+      let e2 : length front + 2 ≡ suc (suc (length front)) = omega arith in
+      rw (e1, e2)
+
+  lay-more : laidAt (over front old) (length front) n ≡ over (front ++ three n) old
+  lay-more =
+      as-sets
+      ∙ sets-eq (three n) (over front old) (length front) (rw filled-length fits)
+      ∙ ap (λ (l : List ℕ). (l ++ three n) ++ drop (length front + 3) (over front old)) (take-at front (drop (length front) old) (length front) refl)
+      ∙ ap (λ (l : List ℕ). (front ++ three n) ++ l) rest-left
+      ∙ ap (λ (k : ℕ). (front ++ three n) ++ drop k old) (sym (length-append front (three n)))
+
+-- ---- a ring that is reached is in shape
+
+after-now : (r : Run) (actions : List Action) → after r actions .now ≡ ringAfter (r .now) actions
+after-now r [] = refl
+after-now r (a ∷ rest) = after-now (next r a) rest
+
+fresh-shape : (size : Size) → sizeFits size ≡ true → (actions : List Action) → inShape (ringAfter (freshRing size) actions) ≡ true
+fresh-shape size fits actions =
+    let start : Run = record { now = freshRing size; past = nothing } in
+    let g = after-invariant actions start (fresh-invariant size fits) in
+    subst (λ (r : Ring). inShape r ≡ true) (after-now start actions) (invariant-inShape (g .control) (g .accounts) (g .bounds))
+
+pub reached-shape : (r : Ring) → Reached r → (done : List Action) → inShape (ringAfter r done) ≡ true
+reached-shape r h done =
+    subst (λ (q : Ring). inShape q ≡ true)
+    (after-append (freshRing (h .size)) (h .past) done ∙ ap (λ (q : Ring). ringAfter q done) (sym (h .reached)))
+    (fresh-shape (h .size) (h .fits) (h .past ++ done))
+
+-- ---- the loop
+
+abbrev ends : List Action → ℕ → Decoded
+ends actions stop = record { actions = actions; stop = stop }
+
+-- actions before others
+abbrev beforeAll : List Action → Decoded → Decoded
+beforeAll done d = ends (done ++ d .actions) (d .stop)
+
+-- at place `at`, with `made` actions made: the ring r0 has become r, the room room0 has become room, and what is left of the bytes is what is left to do
+pub record Progress (r0 : Ring) (bytes room0 : List ℕ) (r : Ring) (room : List ℕ) (at made : ℕ) : Type 0 where
+  pub done : List Action
+  pub ring : r ≡ ringAfter r0 done
+  pub answers : room ≡ over (laid (answersOf r0 done)) room0
+  pub count : made ≡ length done
+  pub rest : decoded bytes ≡ beforeAll done (decodedFrom bytes at)
+  -- each action took a byte at least
+  pub within : at ≤ length bytes
+  pub fewer : made ≤ at
+
+pub start : (r : Ring) (bytes room : List ℕ) → Progress r bytes room r room 0 0
+start r bytes room =
+    record { done = []; ring = refl; answers = refl; count = refl; rest = refl; within = omega arith; fewer = omega arith }
+
+module _ {r0 : Ring} {bytes room0 : List ℕ} {r : Ring} {room : List ℕ} {at made : ℕ} (p : Progress r0 bytes room0 r room at made) where
+  pub shaped : Reached r0 → inShape r ≡ true
+  shaped h = rw (p .ring) (reached-shape r0 h (p .done))
+
+  -- the room as long as it was, and where the next answer goes
+  front-length : length (laid (answersOf r0 (p .done))) ≡ answerNumbers * made
+  front-length = laid-length r0 (p .done) ∙ ap (λ (k : ℕ). answerNumbers * k) (sym (p .count))
+
+  pub room-length : answerNumbers * length bytes ≤ length room0 → length room ≡ length room0
+  room-length fits =
+      let n = front-length in
+      let m = p .fewer in
+      let l = p .within in
+      ap length (p .answers) ∙ simp (length-append, length-drop) (omega arith)
+
+  pub turn :
+      {a : Action} {to : ℕ} {r' : Ring} {room' : List ℕ} →
+      Reached r0 →
+      answerNumbers * length bytes ≤ length room0 →
+      codedAt bytes at ≡ Whole a to →
+      r' ≡ changed (changeOf r a) r →
+      room' ≡ laidAt room (answerNumbers * made) (changeOf r a .answer) →
+      Progress r0 bytes room0 r' room' to (made + 1)
+  turn {a} {to} {r'} {room'} h fits coded changes lays =
+      let moves = whole-moves bytes at coded in
+      let agrees = change-acts r (shaped h) a in
+      let so-far = p .done in
+      let front = laid (answersOf r0 so-far) in
+      let here = act (ringAfter r0 so-far) a .answer in
+      let number : changeOf r a .answer ≡ numbersOf here = sym (agrees .answer) ∙ ap (λ (q : Ring). numbersOf (act q a .answer)) (p .ring) in
+      let long = front-length in
+      let few = p .fewer in
+      record {
+        done = so-far ++ one a;
+        ring = changes ∙ sym (agrees .ring) ∙ ap (λ (q : Ring). act q a .ring) (p .ring) ∙ sym (after-more r0 so-far a);
+        answers =
+          lays
+          ∙ ap (λ (l : List ℕ). laidAt l (answerNumbers * made) (changeOf r a .answer)) (p .answers)
+          ∙ ap (λ (k : ℕ). laidAt (over front room0) k (changeOf r a .answer)) (sym long)
+          ∙ ap (λ (n : Numbers). laidAt (over front room0) (length front) n) number
+          ∙ lay-more front room0 (numbersOf here) (omega arith)
+          ∙ ap (λ (l : List ℕ). over l room0) (sym (laid-more (answersOf r0 so-far) here) ∙ ap laid (sym (answers-more r0 so-far a)));
+        count = ap (λ (k : ℕ). k + 1) (p .count) ∙ sym (length-append so-far (one a));
+        rest =
+          p .rest
+          ∙ ap (beforeAll so-far) (decoded-whole bytes at coded)
+          ∙ ap (λ (l : List Action). ends l (decodedFrom bytes to .stop)) (sym (append-snoc so-far a (decodedFrom bytes to .actions)));
+        within = moves .1;
+        fewer = omega arith;
+      }
+
+  -- where no whole action stands
+  pub finish : decodedFrom bytes at ≡ stopped at → (replay r Accepted made at ≡ ran r0 (decoded bytes)) × (room ≡ ranRoom r0 (decoded bytes) room0)
+  finish e =
+      let whole : decoded bytes ≡ ends (p .done) at =
+      p .rest ∙ ap (beforeAll (p .done)) e ∙ ap (λ (l : List Action). ends l at) (append-nil (p .done)) in
+      subst (λ (d : Decoded). (replay r Accepted made at ≡ ran r0 d) × (room ≡ ranRoom r0 d room0)) (sym whole) (
+        ap (λ (q : Ring). replay q Accepted made at) (p .ring) ∙ ap (λ (k : ℕ). replay (ringAfter r0 (p .done)) Accepted k at) (p .count),
+        p .answers,
+      )

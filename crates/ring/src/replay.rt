@@ -1,0 +1,121 @@
+// Replay: the actions that stand in some bytes, made one by one on the ring of a set-up. The ring stays in one place, and its shape is not tested
+// again: a ring that is reached from a set-up is in shape.
+ghost use mathlib.Core.Path.{_≡_};
+ghost use Prim.Native.Nat.{_+_, _*_, _<_, _≤_};
+ghost use lib.ListN.{length};
+ghost use Rattle.ring.specs.Actions.{decoded};
+ghost use Rattle.ring.specs.declared.state.Answer.the-variants.{Accepted};
+ghost use Rattle.ring.specs.Replay.{laidAt, answerNumbers, replay, refusedReplay, ran, ranRoom, replayRule, roomRule, Reached};
+use crate::actions::Coded;
+use crate::actions::action_at;
+use crate::change::change_by;
+use crate::change::top_at;
+use crate::change::store_numbers;
+use crate::change::store_used;
+use crate::change::store_values;
+use crate::change::store_words;
+use crate::codes::Numbers;
+use crate::state::Answer;
+use crate::state::Refusal;
+use crate::state::Replay;
+use crate::state::Ring;
+
+// How many numbers an answer takes in the room lent.
+pub const ANSWER_NUMBERS: usize = 3;
+
+// An answer as numbers, from a place on.
+fn lay_answer(room: &mut [u64], at: usize, n: Numbers)
+    requires { ⌜ at + 2 < length (now room) ⌝ }
+    ensures { λ _. ⌜ now (room .exit) ≡ laidAt (now (room .entry)) at n ⌝ }
+{
+    room[at] = n.code as u64;
+    room[at + 1] = n.first;
+    room[at + 2] = n.second;
+}
+
+// Nothing was begun.
+fn refused_replay(why: Refusal) -> Replay
+    ensures { λ r. ⌜ r ≡ refusedReplay why ⌝ }
+{
+    let ring = Ring::plain();
+    Replay {
+        ring,
+        answer: Answer::Refused(why),
+        made: 0,
+        stop: 0,
+    }
+}
+
+// All was made that could be.
+fn ended(ring: Ring, made: usize, stop: usize) -> Replay
+    ensures { λ r. ⌜ r ≡ replay ring Accepted made stop ⌝ }
+{
+    Replay {
+        ring,
+        answer: Answer::Accepted,
+        made,
+        stop,
+    }
+}
+
+impl Ring {
+    // All the whole actions from the first byte on.
+    fn run(mut self, bytes: &[u8], room: &mut [u64]) -> Replay
+        requires { ⌜ Reached self × (answerNumbers * length (now bytes) ≤ length (now room)) ⌝ }
+        ensures { λ r. ⌜ (r ≡ ran self (decoded (now (bytes .entry)))) × (now (room .exit) ≡ ranRoom self (decoded (now (bytes .entry))) (now (room .entry))) ⌝ }
+    {
+        let mut at: usize = 0;
+        let mut made: usize = 0;
+        while let Coded::Whole(action, next) = action_at(bytes, at) {
+            let depth = self.depth;
+            let w = self.stack[top_at(depth)];
+            let c = change_by(
+                action,
+                w,
+                self.size,
+                self.places,
+                self.counts,
+                depth,
+                self.reader,
+                &self.words,
+                &self.used,
+                &self.numbers,
+                &self.values,
+            );
+            lay_answer(room, ANSWER_NUMBERS * made, c.answer);
+            let top = c.top;
+            let writer = c.writer;
+            let counts = c.counts;
+            let places = c.places;
+            let reader = c.reader;
+            let stores = c.stores;
+            self.stack[top] = writer;
+            self.counts = counts;
+            self.places = places;
+            self.depth = c.depth;
+            self.reader = reader;
+            store_words(&mut self.words, stores);
+            store_used(&mut self.used, stores);
+            store_numbers(&mut self.numbers, stores);
+            store_values(&mut self.values, stores);
+            at = next;
+            made = made + 1;
+        }
+        ended(self, made, at)
+    }
+
+    // The actions of `bytes` on the ring of a set-up, with their answers in the room lent, ANSWER_NUMBERS numbers each. Refused with SETUP where
+    // `fresh` refuses, and with ROOM where there is no place for an answer to each byte.
+    pub fn replay(pages: u32, slots: u32, mode: u32, bytes: &[u8], room: &mut [u64]) -> Replay
+        ensures { λ r. ⌜ (r ≡ replayRule pages slots mode (now (bytes .entry)) (now (room .entry))) × (now (room .exit) ≡ roomRule pages slots mode (now (bytes .entry)) (now (room .entry))) ⌝ }
+    {
+        if !Ring::accepts(pages, slots, mode) {
+            return refused_replay(Refusal::SetUp);
+        }
+        if room.len() / ANSWER_NUMBERS < bytes.len() {
+            return refused_replay(Refusal::Room);
+        }
+        let first = Ring::fresh(pages, slots, mode);
+        first.ring.run(bytes, room)
+    }
+}
