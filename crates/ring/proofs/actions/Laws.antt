@@ -1,16 +1,20 @@
 -- The actions that some bytes are, one after the other: where a whole action stands it comes first, and the rest is what follows it; where none stands,
 -- nothing follows. Assumes nothing.
 use mathlib.Core.Path.{_≡_, refl, subst, ap, _∙_}
-use mathlib.Core.List.{List}
+use mathlib.Core.Logic.{inl, inr}
+use mathlib.Core.List.{List, [], _∷_}
 use Prim.Native.Nat.{ℕ, zero, suc, _+_, _-_, _<_, _≤_}
 use native.Mathlib.Omega.{arith}
 use borrow.Author.Tests.{leb-false, ltb-false, le-leb}
+use types.Run.{OneOf}
+use denote.Enum.Declared.{tagOf}
 use lib.Dec.{eqb, leb, ltb}
 use lib.ListN.{length}
 use Rattle.ring.specs.declared.state.Action.{Action}
 use Rattle.ring.specs.declared.actions.Coded.{Coded}
 use Rattle.ring.specs.declared.actions.Coded.the-variants.{Whole, Broken, End}
 use Rattle.ring.specs.Actions.{Decoded, beginCode, writeCode, readCode, beginLength, byteAt, beginAt, codedAt, stopped, before, goOn, decodedWithin, decodedFrom}
+use Rattle.ring.proofs.actions.Coded.{the-type}
 use Rattle.ring.proofs.Lists.{by-cond}
 
 -- a whole action has a byte at least, and ends within the bytes
@@ -59,6 +63,13 @@ abbrev pub Stops : Coded → Type 0
 Stops (Whole a next) = ⊥
 Stops Broken = Unit {0}
 Stops End = Unit {0}
+
+-- .. where the code has told so by the numbers of the variants
+pub stops-of-numbers : (c : Coded) → OneOf (1 ∷ 2 ∷ []) (tagOf the-type c) → Stops c
+stops-of-numbers (Whole a next) (inl o) = absurd (omega arith)
+stops-of-numbers (Whole a next) (inr o) = absurd (omega arith)
+stops-of-numbers Broken o = tt
+stops-of-numbers End o = tt
 
 module _ (bytes : List ℕ) (at : ℕ) where
   one-more : decodedFrom bytes at ≡ goOn (codedAt bytes at) (decodedFrom bytes) at

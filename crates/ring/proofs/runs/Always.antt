@@ -44,7 +44,7 @@ accepted-fits pages slots mode e =
         let z : _≡_ {A = ℕ} 0 1 = cc in
         omega arith
 
-fresh-is : (pages slots mode : ℕ) → sizeFits (sizeOf pages slots mode) ≡ true → freshRule pages slots mode .ring ≡ freshRing (sizeOf pages slots mode)
+pub fresh-is : (pages slots mode : ℕ) → sizeFits (sizeOf pages slots mode) ≡ true → freshRule pages slots mode .ring ≡ freshRing (sizeOf pages slots mode)
 fresh-is pages slots mode e = rw e refl
 
 pub always : (pages slots mode : ℕ) → freshRule pages slots mode .answer ≡ answer.Accepted → (actions : List Action)

@@ -1,0 +1,71 @@
+-- `Ring::replay` is the rule, by its tests: a set-up that is refused, room that is too short, and else the run from the fresh ring, which is reached by no action.
+-- Assumes nothing.
+use mathlib.Core.Path.{_≡_, sym, ap, _∙_}
+use mathlib.Core.Bool.{true}
+use mathlib.Core.List.{[]}
+use native.Mathlib.Omega.{arith}
+use borrow.Author.Needs.{needs}
+use borrow.Author.Tests.{not-true, not-false, lt-ltb, le-ltb}
+use Rattle.ring.specs.State.{sizeOf}
+use Rattle.ring.specs.Answers.{Outcome}
+use Rattle.ring.specs.Shape.{sizeFits}
+use Rattle.ring.specs.SetUp.{freshRing}
+use Rattle.ring.specs.Actions.{decoded}
+use Rattle.ring.specs.Replay.{ran, ranRoom, Reached}
+use Rattle.ring.specs.declared.state.Ring.{Ring}
+use Rattle.ring.proofs.runs.Always.{fresh-is}
+use Rattle.ring.proofs.state.Ring.replay.Statement.{statement}
+use Rattle.ring.proofs.state.Ring.replay.Tie as tie
+
+returns : tie.Need-returns
+returns c =
+    let refused = sym (c .before .before .accepts .ensures) ∙ not-true _ (c .before .if1 .taken) in
+    (rw refused (c .refused-replay .ensures), rw refused)
+
+-- ---- a set-up that is accepted
+
+fits : (c : tie.Else1) → sizeFits (sizeOf (c .before .before .before .before .args .pages) (c .before .before .before .before .args .slots) (c .before .before .before .before .args .mode)) ≡ true
+fits c = sym (c .before .accepts .ensures) ∙ not-false _ (c .if1 .left)
+
+returns-2 : tie.Need-returns-2
+returns-2 c =
+    let short = lt-ltb _ _ (c .before .if2 .taken) in
+    (rw (fits (c .before .before), short) (c .refused-replay2 .ensures), rw (fits (c .before .before), short))
+
+-- the ring of the set-up
+abbrev start : tie.After-fresh → tie.Start
+start c = c .before .before .before .before .before .before
+
+fresh-ring : (c : tie.After-fresh) → c .fresh .result .ring ≡ freshRing (sizeOf (start c .args .pages) (start c .args .slots) (start c .args .mode))
+fresh-ring c = ap (λ (o : Outcome). o .ring) (c .fresh .ensures) ∙ fresh-is (start c .args .pages) (start c .args .slots) (start c .args .mode) (fits (c .before .before))
+
+run-requires : tie.Need-run-requires
+run-requires c κs =
+    (record {
+      size = sizeOf (start (c .before) .args .pages) (start (c .before) .args .slots) (start (c .before) .args .mode);
+      fits = fits (c .before .before .before);
+      past = [];
+      reached = fresh-ring (c .before);
+    },
+    omega arith)
+
+returns-3 : tie.Need-returns-3
+returns-3 c =
+    let f = c .before .before .before .before in
+    let enough = le-ltb _ _ (f .before .if2 .left) in
+    (rw (fits (f .before .before), enough) (c .before .before .run .ensures .0 ∙ ap (λ (r : Ring). ran r (decoded (start f .args .bytes .now))) (fresh-ring f)),
+    rw (fits (f .before .before), enough) (c .before .before .run .ensures .1 ∙ ap (λ (r : Ring). ranRoom r (decoded (start f .args .bytes .now)) (start f .args .room .now)) (fresh-ring f)))
+
+pub replay-spec : {M : Type 1} → statement M
+replay-spec =
+    tie.close
+    (tie.spec
+    (λ c κs. search needs)
+    (λ c κs. search needs)
+    returns
+    (λ c κs. search needs)
+    returns-2
+    (λ c κs. search needs)
+    run-requires
+    (λ c. search needs)
+    returns-3)
