@@ -1,0 +1,79 @@
+-- The actions that some bytes are, one after the other: where a whole action stands it comes first, and the rest is what follows it; where none stands,
+-- nothing follows. Assumes nothing.
+use mathlib.Core.Path.{_≡_, refl, subst, ap, _∙_}
+use mathlib.Core.List.{List}
+use Prim.Native.Nat.{ℕ, zero, suc, _+_, _-_, _<_, _≤_}
+use native.Mathlib.Omega.{arith}
+use borrow.Author.Tests.{leb-false, ltb-false, le-leb}
+use lib.Dec.{eqb, leb, ltb}
+use lib.ListN.{length}
+use Rattle.ring.specs.declared.state.Action.{Action}
+use Rattle.ring.specs.declared.actions.Coded.{Coded}
+use Rattle.ring.specs.declared.actions.Coded.the-variants.{Whole, Broken, End}
+use Rattle.ring.specs.Actions.{Decoded, beginCode, writeCode, readCode, beginLength, byteAt, beginAt, codedAt, stopped, before, goOn, decodedWithin, decodedFrom}
+use Rattle.ring.proofs.Lists.{by-cond}
+
+-- a whole action has a byte at least, and ends within the bytes
+abbrev Moves : List ℕ → ℕ → Coded → Type 0
+Moves bytes at (Whole a next) = (at < next) × (next ≤ length bytes)
+Moves bytes at Broken = Unit {0}
+Moves bytes at End = Unit {0}
+
+module _ (bytes : List ℕ) (at : ℕ) where
+  begin-moves : at < length bytes → Moves bytes at (beginAt bytes at)
+  begin-moves l =
+      by-cond (Moves bytes at) (ltb (length bytes - at) beginLength) (λ _. tt)
+      (λ h. let m = ltb-false (length bytes - at) beginLength h in (omega arith, omega arith))
+
+  moves : Moves bytes at (codedAt bytes at)
+  moves =
+      by-cond (Moves bytes at) (leb (length bytes) at) (λ _. tt)
+      (λ h. let l = leb-false (length bytes) at h in
+      by-cond (Moves bytes at) (eqb (byteAt bytes at) beginCode) (λ _. begin-moves l)
+      (λ _. by-cond (Moves bytes at) (eqb (byteAt bytes at) writeCode) (λ _. (omega arith, omega arith))
+      (λ _. by-cond (Moves bytes at) (eqb (byteAt bytes at) readCode) (λ _. (omega arith, omega arith)) (λ _. tt))))
+
+  pub whole-moves : {a : Action} {next : ℕ} → codedAt bytes at ≡ Whole a next → (at < next) × (next ≤ length bytes)
+  whole-moves e = subst (λ (c : Coded). Moves bytes at c) e moves
+
+  past-end : length bytes ≤ at → codedAt bytes at ≡ End
+  past-end l = simp (le-leb _ _ l)
+
+  -- where the two ways to go on agree at every later place, they agree here
+  same-rest : (f g : ℕ → Decoded) (c : Coded) → codedAt bytes at ≡ c → ((next : ℕ) → at < next → f next ≡ g next) → goOn c f at ≡ goOn c g at
+  same-rest f g (Whole a next) e h = ap (before a) (h next (whole-moves e .0))
+  same-rest f g Broken e h = refl
+  same-rest f g End e h = refl
+
+-- more actions allowed than bytes are left changes nothing
+enough : (bytes : List ℕ) (k m at : ℕ) → length bytes - at ≤ k → length bytes - at ≤ m → decodedWithin k bytes at ≡ decodedWithin m bytes at
+enough bytes zero zero at h l = refl
+enough bytes zero (suc m) at h l = rw (past-end bytes at (omega arith))
+enough bytes (suc k) zero at h l = rw (past-end bytes at (omega arith))
+enough bytes (suc k) (suc m) at h l =
+    same-rest bytes at (decodedWithin k bytes) (decodedWithin m bytes) (codedAt bytes at) refl
+    (λ next n. enough bytes k m next (omega arith) (omega arith))
+
+-- no whole action stands there
+abbrev pub Stops : Coded → Type 0
+Stops (Whole a next) = ⊥
+Stops Broken = Unit {0}
+Stops End = Unit {0}
+
+module _ (bytes : List ℕ) (at : ℕ) where
+  one-more : decodedFrom bytes at ≡ goOn (codedAt bytes at) (decodedFrom bytes) at
+  unfolding decodedFrom
+  one-more =
+      enough bytes (length bytes - at) (suc (length bytes - at)) at (omega arith) (omega arith)
+      ∙ same-rest bytes at (decodedWithin (length bytes - at) bytes) (λ next. decodedWithin (length bytes - next) bytes next) (codedAt bytes at) refl
+      (λ next n. enough bytes (length bytes - at) (length bytes - next) next (omega arith) (omega arith))
+
+  pub decoded-whole : {a : Action} {next : ℕ} → codedAt bytes at ≡ Whole a next → decodedFrom bytes at ≡ before a (decodedFrom bytes next)
+  decoded-whole e = one-more ∙ ap (λ (c : Coded). goOn c (decodedFrom bytes) at) e
+
+  stops : (c : Coded) → Stops c → goOn c (decodedFrom bytes) at ≡ stopped at
+  stops Broken _ = refl
+  stops End _ = refl
+
+  pub decoded-stops : {c : Coded} → codedAt bytes at ≡ c → Stops c → decodedFrom bytes at ≡ stopped at
+  decoded-stops {c} e s = one-more ∙ ap (λ (c : Coded). goOn c (decodedFrom bytes) at) e ∙ stops c s
