@@ -1,19 +1,18 @@
 -- Actions as bytes, read back: where the bytes of an action stand it is read, and the bytes of a list of actions are that list.
 -- Assumes nothing.
-use mathlib.Core.Path.{_≡_, refl, sym, ap, _∙_}
+use mathlib.Core.Path.{_≡_, ap, _∙_}
 use mathlib.Core.List.{List, [], _∷_, _++_, append-assoc, append-nil}
 use Prim.Native.Nat.{ℕ, _+_, _-_, _*_, _/_, _%_, _≤_, _<_}
 use native.Mathlib.Nat.{mod-add-div, mod-eq-of-lt, div-div-eq-div-mul}
 use native.Mathlib.Omega.{arith}
 use borrow.Author.Tests.{le-leb, lt-leb, le-ltb}
-use lib.ListN.{length, getD, length-append}
+use lib.ListN.{length, length-append}
 use lib.Seq.{getD-append-seam, getD-append-add}
 use Rattle.ring.specs.Limits.{mostCount}
-use Rattle.ring.specs.Actions.{Decoded, beginCode, writeCode, readCode, beginLength, valueOf, valueBytes, byteAt, valueAt, codedAt, before, stopped, decodedFrom, coded, encoded}
+use Rattle.ring.specs.Actions.{beginCode, writeCode, readCode, beginLength, valueOf, valueBytes, codedAt, before, decodedFrom, coded, encoded}
 use Rattle.ring.specs.declared.state.Action.{Action}
 use Rattle.ring.specs.declared.state.Action.the-variants.{Begin, Write, Read}
-use Rattle.ring.specs.declared.actions.Coded.{Coded}
-use Rattle.ring.specs.declared.actions.Coded.the-variants.{Whole, Broken, End}
+use Rattle.ring.specs.declared.actions.Coded.the-variants.{Whole, End}
 use Rattle.ring.proofs.actions.Laws.{decoded-whole, decoded-stops}
 use Rattle.trace.specs.Trace.{ValueFits, ValuesFit}
 
@@ -35,7 +34,6 @@ module _ (pre rest : List ℕ) where
   before-end : (x : ℕ) → length pre < length (pre ++ x ∷ rest)
   before-end x = simp length-append (omega arith)
 
-module _ (pre rest : List ℕ) where
   pub whole-at : (a : Action) → ValueFits a → codedAt (pre ++ (coded a ++ rest)) (length pre) ≡ Whole a (length pre + length (coded a))
   whole-at (Begin v) f =
       let bytes = pre ++ (coded (Begin v) ++ rest) in
@@ -50,8 +48,8 @@ module _ (pre rest : List ℕ) where
         getD-append-add pre (coded (Begin v) ++ rest) 4 0,
         value-back v f,
       )
-  whole-at Write f = rw (lt-leb _ _ (before-end pre rest writeCode), getD-append-seam)
-  whole-at Read f = rw (lt-leb _ _ (before-end pre rest readCode), getD-append-seam)
+  whole-at Write f = rw (lt-leb _ _ (before-end writeCode), getD-append-seam)
+  whole-at Read f = rw (lt-leb _ _ (before-end readCode), getD-append-seam)
 
 -- ---- a list of actions
 

@@ -1,20 +1,20 @@
 -- The round trip: a trace is read back, and the encoder's calls write it. Assumes nothing.
-use mathlib.Core.Path.{_≡_, refl, sym, subst, ap, _∙_}
+use mathlib.Core.Path.{_≡_, refl, sym, ap, _∙_}
 use mathlib.Core.Bool.{true}
 use mathlib.Core.List.{List, [], _∷_, _++_, append-assoc, append-nil}
-use Prim.Native.Nat.{ℕ, _+_, _≤_, _<_}
+use Prim.Native.Nat.{ℕ, _+_, _≤_}
 use native.Mathlib.Omega.{arith}
-use borrow.Author.Tests.{le-leb, lt-leb, le-ltb, ne-eqb}
-use lib.ListN.{length, take, drop, length-append, length-drop}
+use borrow.Author.Tests.{le-leb, le-ltb, ne-eqb}
+use lib.ListN.{length, length-append, length-drop}
 use lib.Seq.{take-append-seam, drop-append-add, drop-drop}
 use Rattle.ring.specs.State.{sizeOf}
 use Rattle.ring.specs.Shape.{sizeFits}
-use Rattle.ring.specs.Actions.{coded, encoded, decodedFrom}
+use Rattle.ring.specs.Actions.{coded, encoded}
 use Rattle.ring.specs.Replay.{over}
 use Rattle.ring.specs.declared.state.Action.{Action}
 use Rattle.ring.specs.declared.state.Refusal.{Refusal}
 use Rattle.trace.specs.Header.{mostLength, markEnd, versionEnd, firstAction, plainByte, headerOf}
-use Rattle.trace.specs.Encode.{headerBytes, put, kept, placeFor, headerPlace, headerPut, actionPlace, actionPut}
+use Rattle.trace.specs.Encode.{headerBytes, put, kept, placeFor, headerPlace, actionPlace}
 use Rattle.trace.specs.Trace.{ValuesFit, traceOf, Written, writtenFrom, written, ReadBack, WrittenOut, RoundTrip}
 use Rattle.trace.specs.declared.parts.Header.the-variants.{Ready}
 use Rattle.trace.specs.declared.parts.Put.{Put}
@@ -29,8 +29,14 @@ module _ (pages slots mode : ℕ) (actions : List Action) where
   front-back h l =
       let s = small pages slots mode h in
       let bytes = traceOf pages slots mode actions in
-      rw (le-ltb mostLength (length bytes) l, le-leb markEnd (length bytes) (omega arith), le-leb versionEnd (length bytes) (omega arith),
-      le-ltb (length bytes) firstAction (omega arith), ne-eqb mode plainByte (omega arith), h)
+      rw (
+        le-ltb mostLength (length bytes) l,
+        le-leb markEnd (length bytes) (omega arith),
+        le-leb versionEnd (length bytes) (omega arith),
+        le-ltb (length bytes) firstAction (omega arith),
+        ne-eqb mode plainByte (omega arith),
+        h,
+      )
 
   read-back : ValuesFit actions → sizeFits (sizeOf pages slots mode) ≡ true → length (traceOf pages slots mode actions) ≤ mostLength → ReadBack pages slots mode actions
   read-back f h l = record { front = front-back h l; then = decoded-encoded (headerBytes pages slots mode) actions f }

@@ -17,7 +17,7 @@ use Rattle.trace.specs.declared.parts.Put.the-variants.{At, Refused}
 
 -- "the mark "PTR", version 1 in two bytes, low first, then N, S and mode, one byte each"
 abbrev pub headerBytes : ℕ → ℕ → ℕ → List ℕ
-headerBytes pages slots mode = letterP ∷ letterT ∷ letterR ∷ version % 256 ∷ version / 256 ∷ pages ∷ slots ∷ mode ∷ []
+headerBytes pages slots mode = letterP ∷ letterT ∷ letterR ∷ version % 256 ∷ version / 256 % 256 ∷ pages ∷ slots ∷ mode ∷ []
 
 -- some bytes put at a place of others, the rest kept
 abbrev pub put : List ℕ → ℕ → List ℕ → List ℕ

@@ -53,8 +53,14 @@ version = 1
 abbrev pub versionEnd : ℕ
 versionEnd = 5
 
+abbrev pub lowAt : ℕ
+lowAt = 3
+
+abbrev pub highAt : ℕ
+highAt = 4
+
 abbrev pub versionIn : List ℕ → ℕ
-versionIn bytes = byteAt bytes 3 + 256 * byteAt bytes 4
+versionIn bytes = byteAt bytes lowAt + 256 * byteAt bytes highAt
 
 abbrev pub versionFits : List ℕ → Bool
 versionFits bytes = leb versionEnd (length bytes) && eqb (versionIn bytes) version
@@ -74,8 +80,17 @@ setUp pages slots mode = cond (sizeFits (sizeOf pages slots (modeOf mode))) (Rea
 abbrev pub firstAction : ℕ
 firstAction = 8
 
+abbrev pub pagesAt : ℕ
+pagesAt = 5
+
+abbrev pub slotsAt : ℕ
+slotsAt = 6
+
+abbrev pub modeAt : ℕ
+modeAt = 7
+
 abbrev pub setUpIn : List ℕ → Header
-setUpIn bytes = setUp (byteAt bytes 5) (byteAt bytes 6) (byteAt bytes 7)
+setUpIn bytes = setUp (byteAt bytes pagesAt) (byteAt bytes slotsAt) (byteAt bytes modeAt)
 
 -- "Refusals, in this order: 6 longer than that, or mark wrong or cut; 7 version other or cut; 8 set-up cut, or out of range"
 abbrev pub headerOf : List ℕ → Header

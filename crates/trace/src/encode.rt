@@ -3,17 +3,28 @@ ghost use mathlib.Core.Path.{_≡_};
 ghost use Prim.Native.Nat.{_+_, _<_, _≤_, _%_};
 ghost use mathlib.Core.List.{[], _∷_};
 ghost use lib.ListN.{length};
-ghost use Rattle.ring.specs.State.{sizeOf};
-ghost use Rattle.ring.specs.Shape.{sizeFits};
 ghost use Rattle.ring.specs.Actions.{beginCode, beginLength, valueBytes, coded};
 ghost use Rattle.trace.specs.Header.{firstAction};
 ghost use Rattle.trace.specs.Encode.{headerBytes, put, placeFor, headerPlace, actionPlace, headerPut, actionPut};
 use crate::parts::FIRST_ACTION;
+use crate::parts::HIGH_AT;
+use crate::parts::LOW_AT;
+use crate::parts::MODE_AT;
 use crate::parts::MOST_LENGTH;
+use crate::parts::PAGES_AT;
 use crate::parts::Put;
+use crate::parts::SLOTS_AT;
+use crate::parts::VERSION;
 use ring::Action;
 use ring::Refusal;
 use ring::Ring;
+
+// The low byte of a number.
+fn low_byte(value: u32) -> u8
+    ensures { λ r. ⌜ r ≡ value % 256 ⌝ }
+{
+    (value % 256) as u8
+}
 
 // The front, in bytes that have room for it.
 fn store_header(out: &mut [u8], pages: u8, slots: u8, mode: u8)
@@ -23,11 +34,11 @@ fn store_header(out: &mut [u8], pages: u8, slots: u8, mode: u8)
     out[0] = b'P';
     out[1] = b'T';
     out[2] = b'R';
-    out[3] = 1;
-    out[4] = 0;
-    out[5] = pages;
-    out[6] = slots;
-    out[7] = mode;
+    out[LOW_AT] = low_byte(VERSION);
+    out[HIGH_AT] = low_byte(VERSION / 256);
+    out[PAGES_AT] = pages;
+    out[SLOTS_AT] = slots;
+    out[MODE_AT] = mode;
 }
 
 fn header_place(room: usize, pages: u32, slots: u32, mode: u32) -> Put
@@ -80,13 +91,6 @@ fn place_for(room: usize, at: usize, count: usize) -> Put
         return Put::Refused(Refusal::Room);
     }
     Put::At(at + count)
-}
-
-// A byte of a value.
-fn low_byte(value: u32) -> u8
-    ensures { λ r. ⌜ r ≡ value % 256 ⌝ }
-{
-    (value % 256) as u8
 }
 
 fn store_begin(out: &mut [u8], at: usize, value: u32)

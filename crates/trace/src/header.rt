@@ -2,10 +2,15 @@
 ghost use mathlib.Core.Path.{_≡_};
 ghost use Rattle.trace.specs.Header.{marked, versionFits, modeOf, setUp, headerOf};
 use crate::parts::FIRST_ACTION;
+use crate::parts::HIGH_AT;
 use crate::parts::Header;
+use crate::parts::LOW_AT;
 use crate::parts::MARK_END;
+use crate::parts::MODE_AT;
 use crate::parts::MOST_LENGTH;
+use crate::parts::PAGES_AT;
 use crate::parts::PLAIN_BYTE;
+use crate::parts::SLOTS_AT;
 use crate::parts::VERSION;
 use crate::parts::VERSION_END;
 use ring::Refusal;
@@ -32,7 +37,7 @@ fn version_fits(bytes: &[u8]) -> bool
     if bytes.len() < VERSION_END {
         return false;
     }
-    wide(bytes[3]) + 256 * wide(bytes[4]) == VERSION
+    wide(bytes[LOW_AT]) + 256 * wide(bytes[HIGH_AT]) == VERSION
 }
 
 fn mode_of(byte: u8) -> u32
@@ -74,5 +79,5 @@ pub fn header(bytes: &[u8]) -> Header
     if bytes.len() < FIRST_ACTION {
         return Header::Refused(Refusal::Sizes);
     }
-    set_up(bytes[5], bytes[6], bytes[7])
+    set_up(bytes[PAGES_AT], bytes[SLOTS_AT], bytes[MODE_AT])
 }

@@ -4,11 +4,21 @@ use ring::Refusal;
 // the most bytes of a trace
 pub const MOST_LENGTH: usize = 65536;
 
-// where the mark ends, and the version begins
+// where the mark ends, and the version begins: its low byte, then its high byte
 pub const MARK_END: usize = 3;
 
-// where the version ends, and the set-up begins
+pub const LOW_AT: usize = 3;
+
+pub const HIGH_AT: usize = 4;
+
+// where the version ends, and the set-up begins: N, S and mode
 pub const VERSION_END: usize = 5;
+
+pub const PAGES_AT: usize = 5;
+
+pub const SLOTS_AT: usize = 6;
+
+pub const MODE_AT: usize = 7;
 
 // where the set-up ends, and the first action begins
 pub const FIRST_ACTION: usize = 8;

@@ -1,9 +1,9 @@
 -- What the proofs of the encoder share: where a call is not refused there is room, and a run of stores is bytes put at a place.
 -- Assumes nothing.
-use mathlib.Core.Path.{_≡_, refl, sym, _∙_}
-use mathlib.Core.Bool.{Bool, true, false, cond, not}
+use mathlib.Core.Path.{_≡_, refl}
+use mathlib.Core.Bool.{true, not}
 use mathlib.Core.List.{List, [], _∷_}
-use Prim.Native.Nat.{ℕ, suc, _+_, _≤_, _<_}
+use Prim.Native.Nat.{ℕ, suc, _+_, _≤_}
 use native.Mathlib.Omega.{arith}
 use borrow.Author.Tests.{leb-true, ltb-false, not-false}
 use lib.Dec.{ltb}
@@ -12,7 +12,6 @@ use lib.Seq.{sets-eq}
 use Rattle.ring.specs.Limits.{mostPages, mostSlots, stop}
 use Rattle.ring.specs.State.{sizeOf}
 use Rattle.ring.specs.Shape.{sizeTests, sizeFits}
-use Rattle.ring.specs.declared.state.Refusal.{Refusal}
 use Rattle.ring.proofs.Lists.{by-cond, each}
 use Rattle.trace.specs.Header.{mostLength, firstAction}
 use Rattle.trace.specs.Encode.{put, placeFor, headerPlace}

@@ -8,7 +8,9 @@ use Rattle.trace.proofs.encode.store_header.Statement.{statement}
 use Rattle.trace.proofs.encode.store_header.Tie as tie
 
 returns : tie.Need-returns
-returns c = sets-eq (headerBytes (c .args .pages) (c .args .slots) (c .args .mode)) (c .args .out .now) 0 (omega arith)
+returns c =
+    let a = c .before .before .before .args in
+    rw (c .low-byte2 .ensures, c .before .low-byte .ensures) (sets-eq (headerBytes (a .pages) (a .slots) (a .mode)) (a .out .now) 0 (omega arith))
 
 pub store-header-spec : {M : Type 1} → statement M
 store-header-spec =
@@ -17,7 +19,9 @@ store-header-spec =
     (λ c. search needs)
     (λ c. simp length-set (omega arith))
     (λ c. simp length-set (omega arith))
+    (λ c κs. search needs)
     (λ c. simp length-set (omega arith))
+    (λ c κs. search needs)
     (λ c. simp length-set (omega arith))
     (λ c. simp length-set (omega arith))
     (λ c. simp length-set (omega arith))
