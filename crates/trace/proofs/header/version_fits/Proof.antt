@@ -9,7 +9,7 @@ returns : tie.Need-returns
 returns c = rw (lt-leb _ _ (c .if1 .taken))
 
 mul-result : tie.Need-mul-result
-mul-result c = omega (arith, c .before .shared-slice-known3 .given 4)
+mul-result c = omega (arith, c .before .shared-slice-known3 .given 3, c .before .shared-slice-known3 .given 4)
 
 add-result : tie.Need-add-result
 add-result c = omega (arith, c .before .shared-slice-known3 .given 3, c .before .shared-slice-known3 .given 4)
