@@ -41,6 +41,7 @@ fn store_header(out: &mut [u8], pages: u8, slots: u8, mode: u8)
     out[MODE_AT] = mode;
 }
 
+// The place after the front, or the first refusal that applies.
 fn header_place(room: usize, pages: u32, slots: u32, mode: u32) -> Put
     ensures { λ r. ⌜ r ≡ headerPlace room pages slots mode ⌝ }
 {
@@ -78,6 +79,7 @@ fn length_of(action: Action) -> usize
     }
 }
 
+// The place after `count` bytes from `at` on, or the first refusal that applies. `at` is tested by itself, so that the sum does not wrap.
 fn place_for(room: usize, at: usize, count: usize) -> Put
     ensures { λ r. ⌜ r ≡ placeFor room at count ⌝ }
 {
@@ -93,6 +95,7 @@ fn place_for(room: usize, at: usize, count: usize) -> Put
     Put::At(at + count)
 }
 
+// A Begin, in bytes that have room for it.
 fn store_begin(out: &mut [u8], at: usize, value: u32)
     requires { ⌜ at + beginLength ≤ length (now out) ⌝ }
     ensures { λ _. ⌜ now (out .exit) ≡ put (beginCode ∷ valueBytes value) at (now (out .entry)) ⌝ }
@@ -104,6 +107,7 @@ fn store_begin(out: &mut [u8], at: usize, value: u32)
     out[at + 4] = low_byte(value / 16777216);
 }
 
+// One byte, where there is room for it.
 fn store_byte(out: &mut [u8], at: usize, byte: u8)
     requires { ⌜ at < length (now out) ⌝ }
     ensures { λ _. ⌜ now (out .exit) ≡ put (byte ∷ []) at (now (out .entry)) ⌝ }

@@ -16,12 +16,14 @@ use crate::parts::VERSION_END;
 use ring::Refusal;
 use ring::Ring;
 
+// A byte as a number.
 fn wide(x: u8) -> u32
     ensures { λ r. ⌜ r ≡ x ⌝ }
 {
     x as u32
 }
 
+// Whether the mark is there, whole and right.
 fn marked(bytes: &[u8]) -> bool
     ensures { λ r. ⌜ r ≡ marked (now (bytes .entry)) ⌝ }
 {
@@ -31,6 +33,7 @@ fn marked(bytes: &[u8]) -> bool
     (bytes[0] == b'P') & (bytes[1] == b'T') & (bytes[2] == b'R')
 }
 
+// Whether the version is there, whole and one that is read.
 fn version_fits(bytes: &[u8]) -> bool
     ensures { λ r. ⌜ r ≡ versionFits (now (bytes .entry)) ⌝ }
 {
@@ -40,6 +43,7 @@ fn version_fits(bytes: &[u8]) -> bool
     wide(bytes[LOW_AT]) + 256 * wide(bytes[HIGH_AT]) == VERSION
 }
 
+// The mode that a mode byte stands for, which may be out of range.
 fn mode_of(byte: u8) -> u32
     ensures { λ r. ⌜ r ≡ modeOf byte ⌝ }
 {
