@@ -1,0 +1,2 @@
+-- What the proofs of the encoder share.
+pub mod Laws

@@ -1,0 +1,80 @@
+-- What the proofs of the encoder share: where a call is not refused there is room, and a run of stores is bytes put at a place.
+-- Assumes nothing.
+use mathlib.Core.Path.{_≡_, refl}
+use mathlib.Core.Bool.{true, not}
+use mathlib.Core.List.{List, [], _∷_}
+use Prim.Native.Nat.{ℕ, suc, _+_, _≤_}
+use native.Mathlib.Omega.{arith}
+use borrow.Author.Tests.{leb-true, ltb-false, not-false}
+use lib.Dec.{ltb}
+use lib.ListN.{length, set}
+use lib.Seq.{sets-eq}
+use Rattle.ring.specs.Limits.{mostPages, mostSlots, stop}
+use Rattle.ring.specs.State.{sizeOf}
+use Rattle.ring.specs.Shape.{sizeTests, sizeFits}
+use Rattle.ring.proofs.Lists.{by-cond, each}
+use Rattle.trace.specs.Header.{mostLength, firstAction}
+use Rattle.trace.specs.Encode.{put, placeFor, headerPlace}
+use Rattle.trace.specs.declared.parts.Put.{Put}
+use Rattle.trace.specs.declared.parts.Put.the-variants.{At, Refused}
+
+-- ---- what an accepted set-up is
+
+pub record Small (n s m : ℕ) : Type 0 where
+  pub pages : n ≤ mostPages
+  pub slots : s ≤ mostSlots
+  pub mode : m ≤ stop
+
+pub small : (pages slots mode : ℕ) → sizeFits (sizeOf pages slots mode) ≡ true → Small pages slots mode
+small pages slots mode h =
+    let t = each (sizeTests (sizeOf pages slots mode)) h in
+    record {
+      pages = leb-true pages mostPages (t .1 .0);
+      slots = leb-true slots mostSlots (t .1 .1 .1 .0);
+      mode = leb-true mode stop (t .1 .1 .1 .1 .0);
+    }
+
+-- ---- what is so where a call gives a place
+
+-- a fact of a place, and none of a refusal
+abbrev Given : (ℕ → Type 0) → Put → Type 0
+Given P (At next) = P next
+Given P (Refused why) = Unit {0}
+
+pub record Placed (room at count next : ℕ) : Type 0 where
+  pub after : next ≡ at + count
+  pub short : next ≤ mostLength
+  pub fits : next ≤ room
+
+place-given : (room at count : ℕ) → Given (Placed room at count) (placeFor room at count)
+place-given room at count =
+    by-cond (Given (Placed room at count)) (ltb mostLength (at + count)) (λ _. tt)
+    (λ s. by-cond (Given (Placed room at count)) (ltb room (at + count)) (λ _. tt)
+    (λ f. record { after = refl; short = ltb-false mostLength (at + count) s; fits = ltb-false room (at + count) f }))
+
+pub placed : {next : ℕ} (room at count : ℕ) → placeFor room at count ≡ At next → Placed room at count next
+placed room at count e = rw e at (place-given room at count)
+
+pub record Fronted (room pages slots mode next : ℕ) : Type 0 where
+  pub after : next ≡ firstAction
+  pub accepted : sizeFits (sizeOf pages slots mode) ≡ true
+  pub fits : firstAction ≤ room
+
+front-given : (room pages slots mode : ℕ) → Given (Fronted room pages slots mode) (headerPlace room pages slots mode)
+front-given room pages slots mode =
+    by-cond (Given (Fronted room pages slots mode)) (not (sizeFits (sizeOf pages slots mode))) (λ _. tt)
+    (λ s. by-cond (Given (Fronted room pages slots mode)) (ltb room firstAction) (λ _. tt)
+    (λ f. record { after = refl; accepted = not-false (sizeFits (sizeOf pages slots mode)) s; fits = ltb-false room firstAction f }))
+
+pub fronted : {next : ℕ} (room pages slots mode : ℕ) → headerPlace room pages slots mode ≡ At next → Fronted room pages slots mode next
+fronted room pages slots mode e = rw e at (front-given room pages slots mode)
+
+-- ---- a run of stores
+
+pub five-stores : (l : List ℕ) (at a b c d e : ℕ) → at + 5 ≤ length l → set (set (set (set (set l at a) (at + 1) b) (at + 2) c) (at + 3) d) (at + 4) e ≡ put (a ∷ b ∷ c ∷ d ∷ e ∷ []) at l
+five-stores l at a b c d e h =
+    let p : at + 1 ≡ suc at = omega arith in
+    let q : at + 2 ≡ suc (suc at) = omega arith in
+    let r : at + 3 ≡ suc (suc (suc at)) = omega arith in
+    let s : at + 4 ≡ suc (suc (suc (suc at))) = omega arith in
+    rw (p, q, r, s) (sets-eq (a ∷ b ∷ c ∷ d ∷ e ∷ []) l at h)

@@ -1,0 +1,57 @@
+-- Writing a trace, so that what a logger writes is what the bench reads: the bytes of the front and of an action, where they stand, and when a call is refused.
+-- Assumes nothing.
+use mathlib.Core.Bool.{not}
+use mathlib.Core.List.{List, [], _∷_, _++_}
+use Prim.Native.Nat.{ℕ, _+_, _/_, _%_}
+use lib.Dec.{ltb}
+use lib.ListN.{length, take, drop}
+use Rattle.ring.specs.Lists.{first}
+use Rattle.ring.specs.State.{sizeOf}
+use Rattle.ring.specs.Shape.{sizeFits}
+use Rattle.ring.specs.Actions.{coded}
+use Rattle.ring.specs.declared.state.Refusal.the-variants.{Mark, Sizes, Room}
+use Rattle.ring.specs.declared.state.Action.{Action}
+use Rattle.trace.specs.Header.{mostLength, letterP, letterT, letterR, version, firstAction}
+use Rattle.trace.specs.declared.parts.Put.{Put}
+use Rattle.trace.specs.declared.parts.Put.the-variants.{At, Refused}
+
+-- "the mark "PTR", version 1 in two bytes, low first, then N, S and mode, one byte each"
+abbrev pub headerBytes : ℕ → ℕ → ℕ → List ℕ
+headerBytes pages slots mode = letterP ∷ letterT ∷ letterR ∷ version % 256 ∷ version / 256 % 256 ∷ pages ∷ slots ∷ mode ∷ []
+
+-- some bytes put at a place of others, the rest kept
+abbrev pub put : List ℕ → ℕ → List ℕ → List ℕ
+put bytes at out = take at out ++ bytes ++ drop (at + length bytes) out
+
+-- what is there after a call: where it was refused, what was there before
+abbrev pub kept : Put → List ℕ → List ℕ → List ℕ
+kept (At next) new old = new
+kept (Refused why) new old = old
+
+-- the place after so many bytes from a place on: refused with 6 where the trace would be "longer than that", then with 10 where the room is too short
+abbrev pub placeFor : ℕ → ℕ → ℕ → Put
+placeFor room at count =
+    first
+    ((ltb mostLength (at + count), Refused Mark)
+    ∷ (ltb room (at + count), Refused Room)
+    ∷ [])
+    (At (at + count))
+
+-- the front: refused with 8 where the set-up is "out of range", then with 10 where the room is too short
+abbrev pub headerPlace : ℕ → ℕ → ℕ → ℕ → Put
+headerPlace room pages slots mode =
+    first
+    ((not (sizeFits (sizeOf pages slots mode)), Refused Sizes)
+    ∷ (ltb room firstAction, Refused Room)
+    ∷ [])
+    (At firstAction)
+
+abbrev pub headerPut : List ℕ → ℕ → ℕ → ℕ → List ℕ
+headerPut out pages slots mode = kept (headerPlace (length out) pages slots mode) (put (headerBytes pages slots mode) 0 out) out
+
+-- an action
+abbrev pub actionPlace : ℕ → ℕ → Action → Put
+actionPlace room at a = placeFor room at (length (coded a))
+
+abbrev pub actionPut : List ℕ → ℕ → Action → List ℕ
+actionPut out at a = kept (actionPlace (length out) at a) (put (coded a) at out) out
