@@ -1,0 +1,3 @@
+-- What a trace is, and what reading and replaying it gives.
+pub mod Reader
+pub mod Replays
