@@ -58,6 +58,5 @@ impl<'a> TraceReader<'a> {
 pub fn replay(bytes: &[u8], answers: &mut [u64]) -> Replay
     ensures { λ r. ⌜ (r ≡ replayedFrom (now (bytes .entry)) firstAction (now (answers .entry))) × (now (answers .exit) ≡ roomFrom (now (bytes .entry)) firstAction (now (answers .entry))) ⌝ }
 {
-    let reader = TraceReader::open(bytes);
-    reader.replay(answers)
+    TraceReader::open(bytes).replay(answers)
 }
