@@ -55,11 +55,11 @@ use Rattle.trace.proofs.reader.TraceReader.replay.Key.{name as #replay}
 use Rattle.trace.proofs.reader.TraceReader.replay as replay
 use Rattle.trace.proofs.reader.TraceReader.replay.Statement as stated
 use Rattle.trace.proofs.reader.TraceReader.replay.Code as code
-use Rattle.trace.proofs.reader.TraceReader.replay.Code.Mir as named-code
+use Rattle.trace.proofs.reader.TraceReader.replay.Code.Mir as by-names
 
 -- the function, with any type for the result's local: the walk is over this, so that a `Replay`, which is large, is never spelled out in it
 abbrev shape : Ty → Fn
-shape τ = record { lifetimes = 2; outlives = []; params = 2; locals = local τ valueLocal ∷ local (T′.mir (named 0)) valueLocal ∷ drop 2 named-code.by-name-locals; body = named-code.by-name-t-1 }
+shape τ = record { lifetimes = 2; outlives = []; params = 2; locals = local τ valueLocal ∷ local (T′.mir (named 0)) valueLocal ∷ drop 2 by-names.by-name-locals; body = by-names.by-name-t-1 }
 
 is-shape : code.function ≡ shape R′.mir
 is-shape = refl
