@@ -33,8 +33,8 @@ fn lay_answer(room: &mut [u64], at: usize, n: Numbers)
     room[at + 2] = n.second;
 }
 
-// Nothing was begun.
-fn refused_replay(why: Refusal) -> Replay
+// Nothing was begun: the plain ring, with the refusal.
+pub fn refused_replay(why: Refusal) -> Replay
     ensures { λ r. ⌜ r ≡ refusedReplay why ⌝ }
 {
     let ring = Ring::plain();

@@ -1,4 +1,5 @@
--- A trace as bytes: what its front says, and how it is written. Read in this order.
+-- A trace as bytes: what its front says, how it is written and read back, and what its replay gives. Read in this order.
 pub mod Header
 pub mod Encode
 pub mod Trace
+pub mod Replays

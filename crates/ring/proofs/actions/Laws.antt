@@ -58,6 +58,22 @@ enough bytes (suc k) (suc m) at h l =
     same-rest bytes at (decodedWithin k bytes) (decodedWithin m bytes) (codedAt bytes at) refl
     (λ next n. enough bytes k m next (omega arith) (omega arith))
 
+-- they end within the bytes
+module _ (bytes : List ℕ) where
+  goes-within : (at : ℕ) (f : ℕ → Decoded) → ((next : ℕ) → next ≤ length bytes → f next .stop ≤ length bytes) → at ≤ length bytes → (c : Coded)
+      → codedAt bytes at ≡ c → goOn c f at .stop ≤ length bytes
+  goes-within at f h l (Whole a next) e = h next (whole-moves bytes at e .1)
+  goes-within at f h l Broken e = l
+  goes-within at f h l End e = l
+
+  within-stops : (k at : ℕ) → at ≤ length bytes → decodedWithin k bytes at .stop ≤ length bytes
+  within-stops zero at l = l
+  within-stops (suc k) at l = goes-within at (decodedWithin k bytes) (within-stops k) l (codedAt bytes at) refl
+
+  pub stop-within : (at : ℕ) → at ≤ length bytes → decodedFrom bytes at .stop ≤ length bytes
+  unfolding decodedFrom
+  stop-within at l = within-stops (length bytes - at) at l
+
 -- no whole action stands there
 abbrev pub Stops : Coded → Type 0
 Stops (Whole a next) = ⊥

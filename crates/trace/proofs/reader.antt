@@ -1,0 +1,2 @@
+-- What the proofs of the reader's functions share.
+pub mod Held

@@ -1,0 +1,2 @@
+-- What the proofs of a walk share.
+pub mod Laws

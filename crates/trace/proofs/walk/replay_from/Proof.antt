@@ -1,0 +1,133 @@
+-- `walk::replay_from` is the definition: by the front, and by the room. Where neither refuses, the run is `Ring::replay`'s, whose own tests are passed already.
+-- Assumes nothing.
+use mathlib.Core.Path.{_≡_, refl, sym, ap, _∙_}
+use mathlib.Core.Bool.{true}
+use Prim.Native.Nat.{ℕ, _^_, _-_, _≤_, _<_}
+use native.Mathlib.Omega.{arith}
+use borrow.Author.Needs.{needs}
+use mathlib.Core.List.{List}
+use lib.ListN.{length, take, drop}
+use Rattle.ring.specs.Actions.{decoded}
+use Rattle.ring.specs.Replay.{ran, ranRoom, roomFits, replayRule, roomRule}
+use Rattle.ring.specs.declared.state.Replay.{Replay}
+use Rattle.trace.specs.Header.{headerOf}
+use Rattle.trace.specs.Replays.{walkPlace, walkBytes, walked, frontRing, replayedFrom, roomFrom}
+use Rattle.trace.specs.declared.parts.Header.the-variants.{Ready}
+use Rattle.trace.proofs.walk.Laws.{place-within, ready-fits, room-short, room-enough, walk-part, walk-stop, rule-runs, rule-fills}
+use Rattle.trace.proofs.walk.replay_from.Statement.{statement}
+use Rattle.trace.proofs.walk.replay_from.Tie as tie
+
+-- ---- a front that is refused
+
+returns-2 : tie.Need-returns-2
+unfolding replayedFrom roomFrom
+returns-2 c =
+    let says = sym (c .before .before .before .before .header .ensures) ∙ c .before .before .front .given .1 in
+    (rw says (c .refused-replay .ensures), rw says)
+
+-- ---- a front that says a set-up
+
+from-within : (c : tie.After-walk-place) → c .walk-place .result ≤ length (c .before .before .before .before .before .before .before .args .bytes .now)
+from-within c = rw (c .walk-place .ensures) (place-within _ _)
+
+returns : tie.Need-returns
+unfolding replayedFrom roomFrom
+returns c =
+    let w = c .before .before in
+    let a = w .before .before .before .before .before .before .before .args in
+    let says = sym (w .before .before .before .before .header .ensures) ∙ w .before .before .front2 .given .1 in
+    let short = room-short (a .bytes .now) (a .answers .now) (a .at) (w .walk-place .result) (w .walk-place .ensures) (c .before .if1 .taken) in
+    (rw (says, short) (c .refused-replay2 .ensures), rw (says, short))
+
+-- ---- the run
+
+-- the bytes, the room and the place that the function is given
+abbrev bytes : tie.After-replay → List ℕ
+bytes c = c .before .before .before .before .before .before .before .before .before .before .before .args .bytes .now
+
+abbrev room : tie.After-replay → List ℕ
+room c = c .before .before .before .before .before .before .before .before .before .before .before .args .answers .now
+
+abbrev place : tie.After-replay → ℕ
+place c = c .before .before .before .before .before .before .before .before .before .before .before .args .at
+
+-- the set-up that the front says
+abbrev pages : tie.After-replay → ℕ
+pages c = c .before .before .before .before .before .before .front2 .given .0 .0
+
+abbrev slots : tie.After-replay → ℕ
+slots c = c .before .before .before .before .before .before .front2 .given .0 .1 .0
+
+abbrev mode : tie.After-replay → ℕ
+mode c = c .before .before .before .before .before .before .front2 .given .0 .1 .1 .0
+
+-- what the definition runs
+abbrev left : tie.After-replay → List ℕ
+left c = walkBytes (bytes c) (place c)
+
+abbrev from : tie.After-replay → ℕ
+from c = c .before .before .before .before .walk-place .result
+
+says : (c : tie.After-replay) → headerOf (bytes c) ≡ Ready (pages c) (slots c) (mode c)
+says c = sym (c .before .before .before .before .before .before .before .before .header .ensures) ∙ c .before .before .before .before .before .before .front2 .given .1
+
+begins : (c : tie.After-replay) → from c ≡ walkPlace (length (bytes c)) (place c)
+begins c = c .before .before .before .before .walk-place .ensures
+
+part : (c : tie.After-replay) → take (length (bytes c) - from c) (drop (from c) (bytes c)) ≡ left c
+part c = walk-part (bytes c) (room c) (place c) (from c) (begins c)
+
+enough : (c : tie.After-replay) → roomFits (left c) (room c) ≡ true
+enough c = room-enough (bytes c) (room c) (place c) (from c) (begins c) (c .before .before .before .if1 .left)
+
+runs : (c : tie.After-replay) → c .replay .result ≡ ran (frontRing (pages c) (slots c) (mode c)) (decoded (left c))
+runs c =
+    c .replay .ensures .0
+    ∙ ap (λ (l : List ℕ). replayRule (pages c) (slots c) (mode c) l (room c)) (part c)
+    ∙ rule-runs (pages c) (slots c) (mode c) (left c) (room c) (ready-fits (bytes c) (says c)) (enough c)
+
+fills : (c : tie.After-replay) → c .replay .last .1 .1 .1 .1 .0 ≡ ranRoom (frontRing (pages c) (slots c) (mode c)) (decoded (left c)) (room c)
+fills c =
+    c .replay .ensures .1
+    ∙ ap (λ (l : List ℕ). roomRule (pages c) (slots c) (mode c) l (room c)) (part c)
+    ∙ rule-fills (pages c) (slots c) (mode c) (left c) (room c) (ready-fits (bytes c) (says c)) (enough c)
+
+bytes-small : (c : tie.After-shared-slice-known) → length (c .before .args .bytes .now) < 2 ^ 64
+bytes-small c = search needs
+
+walked-requires : tie.Need-walked-requires
+walked-requires c κs =
+    let r = c .before .before in
+    let stop = ap (λ (k : Replay). k .stop) (runs r) in
+    omega (arith, stop, walk-stop (bytes r) (room r) (place r) (from r) (begins r), bytes-small (c .before .before .before .before .before .before .before .before .before .before .before .before))
+
+returns-3 : tie.Need-returns-3
+unfolding replayedFrom roomFrom
+returns-3 c =
+    let r = c .before .before .before in
+    let whole =
+    c .walked .ensures
+    ∙ ap (λ (k : Replay). walked (length (bytes r)) (from r) k) (runs r)
+    ∙ ap (λ (k : ℕ). walked (length (bytes r)) k (ran (frontRing (pages r) (slots r) (mode r)) (decoded (left r)))) (begins r) in
+    (rw (says r, enough r) whole, rw (says r, enough r) (fills r))
+
+pub replay-from-spec : {M : Type 1} → statement M
+replay-from-spec =
+    tie.close
+    (tie.spec
+    (λ c κs. search needs)
+    (λ c. search needs)
+    (λ c κs. search needs)
+    (λ c. search needs)
+    (λ c κs. search needs)
+    (λ c. omega (arith, from-within c))
+    (λ c κs. search needs)
+    returns
+    (λ c. omega (arith, from-within (c .before)))
+    (λ c. omega (arith, from-within (c .before)))
+    (λ c. search needs)
+    (λ c κs. search needs)
+    walked-requires
+    returns-2
+    (λ c. search needs)
+    returns-3)

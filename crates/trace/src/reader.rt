@@ -1,0 +1,61 @@
+// A trace that is read: a struct that holds its bytes, and thin functions over it. The borrow checker covers no function over such a struct, so each
+// is proved by hand; `replay` has plain parameters, and whoever calls it needs no walk.
+ghost use mathlib.Core.Path.{_≡_};
+ghost use Rattle.ring.specs.Actions.{codedAt};
+ghost use Rattle.trace.specs.Header.{firstAction};
+ghost use Rattle.trace.specs.Replays.{replayedFrom, roomFrom};
+use crate::parts::FIRST_ACTION;
+use crate::walk::replay_from;
+use ring::Coded;
+use ring::Replay;
+use ring::action_at;
+
+// A trace that is read: its bytes, which the reader keeps hold of, and the place of the next action.
+pub struct TraceReader<'a> {
+    pub bytes: &'a [u8],
+    pub at: usize,
+}
+
+impl<'a> TraceReader<'a> {
+    // A reader of these bytes, at the first action.
+    pub fn open(bytes: &'a [u8]) -> TraceReader<'a>
+        ensures { λ r. ⌜ (r .bytes ≡ bytes .entry) × (r .at ≡ firstAction) ⌝ }
+    {
+        TraceReader {
+            bytes,
+            at: FIRST_ACTION,
+        }
+    }
+
+    // What stands at the place.
+    pub fn item(self) -> Coded
+        ensures { λ s. ⌜ s ≡ codedAt (now (self .entry .bytes)) (self .entry .at) ⌝ }
+    {
+        action_at(self.bytes, self.at)
+    }
+
+    // The same bytes at another place.
+    pub fn moved(self, at: usize) -> TraceReader<'a>
+        ensures { λ r. ⌜ (r .bytes ≡ self .entry .bytes) × (r .at ≡ at) ⌝ }
+    {
+        TraceReader {
+            bytes: self.bytes,
+            at,
+        }
+    }
+
+    // The actions from the place on, made one by one; their answers are in the room that is lent.
+    pub fn replay(self, answers: &mut [u64]) -> Replay
+        ensures { λ r. ⌜ (r ≡ replayedFrom (now (self .entry .bytes)) (self .entry .at) (now (answers .entry))) × (now (answers .exit) ≡ roomFrom (now (self .entry .bytes)) (self .entry .at) (now (answers .entry))) ⌝ }
+    {
+        replay_from(self.bytes, self.at, answers)
+    }
+}
+
+// A whole trace: its front, and the actions from the first one on, by a reader that keeps hold of the bytes. `answers` wants a place for an answer
+// to each byte past the front; see `Ring::replay`.
+pub fn replay(bytes: &[u8], answers: &mut [u64]) -> Replay
+    ensures { λ r. ⌜ (r ≡ replayedFrom (now (bytes .entry)) firstAction (now (answers .entry))) × (now (answers .exit) ≡ roomFrom (now (bytes .entry)) firstAction (now (answers .entry))) ⌝ }
+{
+    TraceReader::open(bytes).replay(answers)
+}

@@ -1,0 +1,56 @@
+// The actions of a trace from a place on, made one by one on the ring of its front.
+ghost use mathlib.Core.Path.{_≡_};
+ghost use Prim.Native.Nat.{_+_, _<_, _^_};
+ghost use Rattle.trace.specs.Replays.{walkPlace, walked, replayedFrom, roomFrom};
+use crate::header::header;
+use crate::parts::Header;
+use ring::Answer;
+use ring::Refusal;
+use ring::Replay;
+use ring::Ring;
+use ring::replay::ANSWER_NUMBERS;
+use ring::replay::refused_replay;
+
+// Where a walk begins: a place past the end is the end.
+fn walk_place(length: usize, at: usize) -> usize
+    ensures { λ r. ⌜ r ≡ walkPlace length at ⌝ }
+{
+    if length < at { length } else { at }
+}
+
+// A run of the bytes from `from` on, as one of all `length` bytes. Where it stops before their end, the action there is unknown or cut.
+fn walked(run: Replay, length: usize, from: usize) -> Replay
+    requires { ⌜ from + run .stop < 2 ^ 64 ⌝ }
+    ensures { λ r. ⌜ r ≡ walked length from run ⌝ }
+{
+    let ring = run.ring;
+    let stop = from + run.stop;
+    let answer = if stop == length {
+        Answer::Accepted
+    } else {
+        Answer::Refused(Refusal::Action)
+    };
+    Replay {
+        ring,
+        answer,
+        made: run.made,
+        stop,
+    }
+}
+
+pub fn replay_from(bytes: &[u8], at: usize, answers: &mut [u64]) -> Replay
+    ensures { λ r. ⌜ (r ≡ replayedFrom (now (bytes .entry)) at (now (answers .entry))) × (now (answers .exit) ≡ roomFrom (now (bytes .entry)) at (now (answers .entry))) ⌝ }
+{
+    let front = header(bytes);
+    match front {
+        Header::Refused(why) => refused_replay(why),
+        Header::Ready(pages, slots, mode) => {
+            let from = walk_place(bytes.len(), at);
+            if answers.len() / ANSWER_NUMBERS < bytes.len() - from {
+                return refused_replay(Refusal::Room);
+            }
+            let run = Ring::replay(pages, slots, mode, &bytes[from..], answers);
+            walked(run, bytes.len(), from)
+        }
+    }
+}
