@@ -6,7 +6,7 @@ ghost use mathlib.Core.Path.{_≡_};
 ghost use lib.ListN.{length};
 use libc::STDERR_FILENO;
 
-// Linux passes no longer argument, so a name is never cut.
+// Linux passes no longer argument, so a name is never cut. A longer one would be an empty name, which no file has.
 const NAME: usize = 131072;
 
 // Room for the answers of the longest trace: three numbers for each byte after its first 8.

@@ -16,6 +16,9 @@ use ring::Numbers;
 use ring::Ring;
 use ring::answer_numbers;
 
+// Of a trace's refusals, the one whose place in the trace is said: an unknown or cut action.
+const AT_BYTE: u32 = 9;
+
 // The first line of a text's first section.
 pub fn heading(text: &[u8]) {
     whole_line(text);
@@ -150,9 +153,6 @@ pub fn commit_line(ring: Ring) {
     at = number(&mut line, at, places.index as u64);
     end_line(&mut line, at);
 }
-
-// Of a trace's refusals, the one whose place in the trace is said: an unknown or cut action.
-const AT_BYTE: u32 = 9;
 
 // A trace's refusal, by its number, and where it stopped.
 pub fn trace_line(refusal: u32, stop: u64) {
