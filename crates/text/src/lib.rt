@@ -1,7 +1,7 @@
 // The ring's answers, states and receipts as lines of text on standard output. Every function takes any value: none has a `requires`.
-mod put; // what a line is made of
+mod put; // a line, and what it is made of
 mod names; // answers by name
-mod lines; // lines about actions and rings, and headings
+mod lines; // lines about actions, rings and traces, and headings
 mod tallies; // how often each answer came
 mod receipts; // the receipt
 
@@ -12,7 +12,9 @@ pub use lines::digest_line;
 pub use lines::fresh_line;
 pub use lines::heading;
 pub use lines::number_line;
+pub use lines::numbers_line;
 pub use lines::section;
+pub use lines::trace_line;
 pub use lines::words_line;
 pub use receipts::receipt;
 pub use tallies::Tally;

@@ -1,89 +1,108 @@
-// Headings, and lines of two columns about an action or a ring. Sums of lengths wrap, since nothing bounds a text.
+// Headings, and lines of two columns about an action, a ring or a trace.
 ghost use Prim.Native.Nat.{_≤_};
 use crate::names::answer;
+use crate::names::refusal_name;
+use crate::put::Line;
+use crate::put::ROOM;
 use crate::put::end_line;
+use crate::put::hex;
 use crate::put::number;
 use crate::put::pad;
+use crate::put::whole_line;
 use crate::put::word;
-use libc::STDOUT_FILENO;
 use ring::Action;
 use ring::Answer;
+use ring::Numbers;
 use ring::Ring;
-use std::num::wrapping_add_usize;
+use ring::answer_numbers;
+
+// Of a trace's refusals, the one whose place in the trace is said: an unknown or cut action.
+const AT_BYTE: u32 = 9;
 
 // The first line of a text's first section.
 pub fn heading(text: &[u8]) {
-    word(text);
-    end_line();
+    whole_line(text);
 }
 
 // The first line of a section, after the empty line that parts it from the one before.
 pub fn section(text: &[u8]) {
-    end_line();
+    whole_line(b"");
     heading(text);
 }
 
 // The start of a line, with its first column.
-fn label(text: &[u8]) {
-    word(b"  ");
-    let n = word(text);
-    pad(n);
+fn label(line: &mut Line, text: &[u8]) -> usize {
+    let mut at = word(line, 0, b"  ");
+    at = word(line, at, text);
+    pad(line, at)
 }
 
 // A number that is said of a ring or of a run.
 pub fn number_line(text: &[u8], n: u64) {
-    label(text);
-    number(n);
-    end_line();
+    let mut line = [0u8; ROOM];
+    let mut at = label(&mut line, text);
+    at = number(&mut line, at, n);
+    end_line(&mut line, at);
 }
 
 // A digest, with a first column that has a number in it.
 pub fn digest_line(before: &[u8], n: u64, after: &[u8], digest: u32) {
-    word(b"  ");
-    let mut written = word(before);
-    written = wrapping_add_usize(written, number(n));
-    written = wrapping_add_usize(written, word(after));
-    pad(written);
-    io::print_hex(STDOUT_FILENO, digest as u64, 8);
-    end_line();
+    let mut line = [0u8; ROOM];
+    let mut at = word(&mut line, 0, b"  ");
+    at = word(&mut line, at, before);
+    at = number(&mut line, at, n);
+    at = word(&mut line, at, after);
+    at = pad(&mut line, at);
+    at = hex(&mut line, at, digest);
+    end_line(&mut line, at);
 }
 
-// The second column of a line about an action.
-fn answered(a: Answer) {
-    answer(a);
-    end_line();
+// The first column of a set-up's line.
+fn fresh_label(line: &mut Line, pages: u32, slots: u32, mode: u32) -> usize {
+    let mut at = word(line, 0, b"  fresh(");
+    at = number(line, at, pages as u64);
+    at = word(line, at, b", ");
+    at = number(line, at, slots as u64);
+    at = word(line, at, b", ");
+    at = number(line, at, mode as u64);
+    at = word(line, at, b")");
+    pad(line, at)
 }
 
 // A set-up and its answer.
 pub fn fresh_line(pages: u32, slots: u32, mode: u32, a: Answer) {
-    word(b"  fresh(");
-    // 11 characters stand around the three numbers
-    let mut written = wrapping_add_usize(11, number(pages as u64));
-    word(b", ");
-    written = wrapping_add_usize(written, number(slots as u64));
-    word(b", ");
-    written = wrapping_add_usize(written, number(mode as u64));
-    word(b")");
-    pad(written);
-    answered(a);
+    let mut line = [0u8; ROOM];
+    let mut at = fresh_label(&mut line, pages, slots, mode);
+    at = answer(&mut line, at, answer_numbers(a));
+    end_line(&mut line, at);
+}
+
+fn begin_label(line: &mut Line, value: u32) -> usize {
+    let mut at = word(line, 0, b"  Begin ");
+    at = number(line, at, value as u64);
+    pad(line, at)
 }
 
 // The first column of an action's line.
-fn action_label(action: Action) {
+fn action_label(line: &mut Line, action: Action) -> usize {
     match action {
-        Action::Begin(value) => {
-            word(b"  Begin ");
-            pad(wrapping_add_usize(6, number(value as u64)));
-        }
-        Action::Write => label(b"Write"),
-        Action::Read => label(b"Read"),
+        Action::Begin(value) => begin_label(line, value),
+        Action::Write => label(line, b"Write"),
+        Action::Read => label(line, b"Read"),
     }
 }
 
 // An action and its answer.
 pub fn action_line(action: Action, a: Answer) {
-    action_label(action);
-    answered(a);
+    numbers_line(action, answer_numbers(a));
+}
+
+// An action and its answer, where the answer was kept as its numbers.
+pub fn numbers_line(action: Action, n: Numbers) {
+    let mut line = [0u8; ROOM];
+    let mut at = action_label(&mut line, action);
+    at = answer(&mut line, at, n);
+    end_line(&mut line, at);
 }
 
 // The last page whose word the ring has room for: no function here asks that a ring is in shape.
@@ -93,41 +112,56 @@ fn last_page(pages: u32) -> u32
     if pages < 16 { pages } else { 16 }
 }
 
-fn link_word(w: u32) {
-    number(w as u64);
+fn link_word(line: &mut Line, at: usize, w: u32) -> usize {
+    number(line, at, w as u64)
 }
 
-fn next_word(w: u32) {
-    word(b", ");
-    link_word(w);
+fn next_word(line: &mut Line, at: usize, w: u32) -> usize {
+    let to = word(line, at, b", ");
+    link_word(line, to, w)
 }
 
-fn words(words: &[u32; 17], pages: u32) {
+fn words(line: &mut Line, at: usize, words: &[u32; 17], pages: u32) -> usize {
     let last = last_page(pages);
-    link_word(words[0]);
+    let mut to = link_word(line, at, words[0]);
     let mut p: u32 = 1;
     while p <= last {
-        let at = p as usize;
-        next_word(words[at]);
+        let page = p as usize;
+        to = next_word(line, to, words[page]);
         p = p + 1;
     }
+    to
 }
 
 // The words of pages 0 to N.
 pub fn words_line(ring: Ring) {
-    label(b"words");
+    let mut line = [0u8; ROOM];
+    let mut at = label(&mut line, b"words");
     let size = ring.size;
-    words(&ring.words, size.pages);
-    end_line();
+    at = words(&mut line, at, &ring.words, size.pages);
+    end_line(&mut line, at);
 }
 
 // Where the commit position stands.
 pub fn commit_line(ring: Ring) {
     let places = ring.places;
-    label(b"commit");
-    word(b"page ");
-    number(places.commit.0 as u64);
-    word(b", index ");
-    number(places.index as u64);
-    end_line();
+    let mut line = [0u8; ROOM];
+    let mut at = label(&mut line, b"commit");
+    at = word(&mut line, at, b"page ");
+    at = number(&mut line, at, places.commit.0 as u64);
+    at = word(&mut line, at, b", index ");
+    at = number(&mut line, at, places.index as u64);
+    end_line(&mut line, at);
+}
+
+// A trace's refusal, by its number, and where it stopped.
+pub fn trace_line(refusal: u32, stop: u64) {
+    let mut line = [0u8; ROOM];
+    let mut at = label(&mut line, b"trace");
+    at = refusal_name(&mut line, at, refusal);
+    if refusal == AT_BYTE {
+        at = word(&mut line, at, b" at byte ");
+        at = number(&mut line, at, stop);
+    }
+    end_line(&mut line, at);
 }

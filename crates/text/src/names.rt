@@ -1,90 +1,88 @@
 // Answers by name.
-ghost use Prim.Native.Nat.{_≤_};
+use crate::put::Line;
 use crate::put::number;
 use crate::put::word;
-use ring::Answer;
-use ring::answer_numbers;
+use ring::Numbers;
 use ring::codes::LAST_KIND;
 
-// A refusal by its number in the rules. Answers how long the text is.
-pub(crate) fn refusal_name(refusal: u32) -> usize
-    ensures { λ r. ⌜ r ≤ 16 ⌝ }
-{
+// A refusal by its number in the rules.
+pub(crate) fn refusal_name(line: &mut Line, at: usize, refusal: u32) -> usize {
     match refusal {
-        1 => word(b"refused 1 SHAPE"),
-        2 => word(b"refused 2 DEPTH"),
-        3 => word(b"refused 3 NOBODY"),
-        4 => word(b"refused 4 WORN"),
-        5 => word(b"refused 5 SETUP"),
-        _ => word(b"refused"),
+        1 => word(line, at, b"refused 1 SHAPE"),
+        2 => word(line, at, b"refused 2 DEPTH"),
+        3 => word(line, at, b"refused 3 NOBODY"),
+        4 => word(line, at, b"refused 4 WORN"),
+        5 => word(line, at, b"refused 5 SETUP"),
+        6 => word(line, at, b"refused 6 MARK"),
+        7 => word(line, at, b"refused 7 VERSION"),
+        8 => word(line, at, b"refused 8 SIZES"),
+        9 => word(line, at, b"refused 9 ACTION"),
+        10 => word(line, at, b"refused 10 ROOM"),
+        _ => word(line, at, b"refused"),
     }
 }
 
-// The kind of an answer that is no refusal, by its code. Answers how long the text is.
-fn kind_name(code: u32) -> usize
-    ensures { λ r. ⌜ r ≤ 16 ⌝ }
-{
+// The kind of an answer that is no refusal, by its code.
+fn kind_name(line: &mut Line, at: usize, code: u32) -> usize {
     match code {
-        0 => word(b"Accepted"),
-        1 => word(b"Begun"),
-        2 => word(b"Reserved"),
-        3 => word(b"Looked"),
-        4 => word(b"Dropped"),
-        5 => word(b"Marked"),
-        6 => word(b"Shared"),
-        7 => word(b"Retry"),
-        8 => word(b"Promoted"),
-        9 => word(b"Standing"),
-        10 => word(b"Cleared"),
-        11 => word(b"Pushed"),
-        12 => word(b"Passed"),
-        13 => word(b"Filled"),
-        14 => word(b"Committed"),
-        15 => word(b"Pending"),
-        16 => word(b"Event"),
-        17 => word(b"Empty"),
-        18 => word(b"Found"),
-        19 => word(b"Busy"),
-        20 => word(b"Prepared"),
-        21 => word(b"Swapped"),
-        _ => word(b"Missed"),
+        0 => word(line, at, b"Accepted"),
+        1 => word(line, at, b"Begun"),
+        2 => word(line, at, b"Reserved"),
+        3 => word(line, at, b"Looked"),
+        4 => word(line, at, b"Dropped"),
+        5 => word(line, at, b"Marked"),
+        6 => word(line, at, b"Shared"),
+        7 => word(line, at, b"Retry"),
+        8 => word(line, at, b"Promoted"),
+        9 => word(line, at, b"Standing"),
+        10 => word(line, at, b"Cleared"),
+        11 => word(line, at, b"Pushed"),
+        12 => word(line, at, b"Passed"),
+        13 => word(line, at, b"Filled"),
+        14 => word(line, at, b"Committed"),
+        15 => word(line, at, b"Pending"),
+        16 => word(line, at, b"Event"),
+        17 => word(line, at, b"Empty"),
+        18 => word(line, at, b"Found"),
+        19 => word(line, at, b"Busy"),
+        20 => word(line, at, b"Prepared"),
+        21 => word(line, at, b"Swapped"),
+        _ => word(line, at, b"Missed"),
     }
 }
 
-// The name of an answer's kind, by its code. Answers how long it is.
-pub(crate) fn name(code: u32) -> usize
-    ensures { λ r. ⌜ r ≤ 16 ⌝ }
-{
+// The name of an answer's kind, by its code.
+pub(crate) fn name(line: &mut Line, at: usize, code: u32) -> usize {
     if code <= LAST_KIND {
-        kind_name(code)
+        kind_name(line, at, code)
     } else {
-        refusal_name(code - LAST_KIND)
+        refusal_name(line, at, code - LAST_KIND)
     }
 }
 
-fn one_value(value: u64) {
-    word(b"(");
-    number(value);
-    word(b")");
+fn one_value(line: &mut Line, at: usize, value: u64) -> usize {
+    let mut to = word(line, at, b"(");
+    to = number(line, to, value);
+    word(line, to, b")")
 }
 
-fn two_values(first: u64, second: u64) {
-    word(b"(");
-    number(first);
-    word(b", ");
-    number(second);
-    word(b")");
+fn two_values(line: &mut Line, at: usize, first: u64, second: u64) -> usize {
+    let mut to = word(line, at, b"(");
+    to = number(line, to, first);
+    to = word(line, to, b", ");
+    to = number(line, to, second);
+    word(line, to, b")")
 }
 
-// An answer: its name, with its values in brackets.
-pub(crate) fn answer(answer: Answer) {
-    let numbers = answer_numbers(answer);
-    name(numbers.code);
-    match answer {
-        Answer::Begun(depth) => one_value(depth as u64),
-        Answer::Reserved(reading) => one_value(reading.0 as u64),
-        Answer::Committed(count) => one_value(count),
-        Answer::Event(reading, value) => two_values(reading.0 as u64, value as u64),
-        _ => (),
+// An answer from its numbers: its name, and in brackets the values that an answer of its kind has.
+pub(crate) fn answer(line: &mut Line, at: usize, n: Numbers) -> usize {
+    let code = n.code;
+    let to = name(line, at, code);
+    match code {
+        // Begun, Reserved, Committed
+        1 | 2 | 14 => one_value(line, to, n.first),
+        // Event
+        16 => two_values(line, to, n.first, n.second),
+        _ => to,
     }
 }

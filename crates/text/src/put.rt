@@ -1,31 +1,86 @@
-// What a line is made of: text, numbers and the spaces between columns. What cannot be written is left out, since a program has nobody to tell.
-ghost use mathlib.Core.Path.{_≡_};
-ghost use lib.ListN.{length};
-ghost use Rattle.io.specs.Digits.{Fewest};
+// What a line is made of: text, numbers and the spaces between columns. A line is put together in room of its own and written whole at its end, so that
+// it is one write. Each function takes the line and a place in it, and answers the place after what it put. What does not fit is cut at the room: no line
+// here comes near it. What cannot be written is left out, since a program has nobody to tell.
+ghost use Prim.Native.Nat.{_<_};
 use libc::STDOUT_FILENO;
 
-// How wide the first column is.
-pub(crate) const COLUMN: usize = 18;
+// How many bytes a line has room for, its newline among them.
+pub(crate) const ROOM: usize = 256;
 
-// Text as it stands. Answers its length.
-pub(crate) fn word(text: &[u8]) -> usize
-    ensures { λ r. ⌜ r ≡ length (now (text .entry)) ⌝ }
-{
-    io::write_all(STDOUT_FILENO, text);
-    text.len()
+pub(crate) type Line = [u8; ROOM];
+
+// Where the second column starts: after two spaces and a first column of 18 characters.
+pub(crate) const SECOND: usize = 20;
+
+// One byte, or none where the room is used up.
+fn byte(line: &mut Line, at: usize, b: u8) -> usize {
+    if at < ROOM {
+        line[at] = b;
+        return at + 1;
+    }
+    at
 }
 
-// A number in decimal. Answers how many digits it has.
-pub(crate) fn number(n: u64) -> usize
-    ensures { λ r. ⌜ Fewest 10 1 n r ⌝ }
-{
-    let mut text = [0u8; 20];
-    let k = io::decimal(n, &mut text);
-    io::write_all(STDOUT_FILENO, &text[..k]);
-    k
+// Text as it stands.
+pub(crate) fn word(line: &mut Line, at: usize, text: &[u8]) -> usize {
+    let mut to = at;
+    let mut i: usize = 0;
+    while i < text.len() {
+        to = byte(line, to, text[i]);
+        i = i + 1;
+    }
+    to
 }
 
-// The first n of a text, or all of it where it is shorter.
+// Spaces up to a place, and none where the line is past it.
+pub(crate) fn fill(line: &mut Line, at: usize, end: usize) -> usize {
+    let mut to = at;
+    let mut i = at;
+    while i < end {
+        to = byte(line, to, b' ');
+        i = i + 1;
+    }
+    to
+}
+
+// The spaces after the first column.
+pub(crate) fn pad(line: &mut Line, at: usize) -> usize {
+    fill(line, at, SECOND)
+}
+
+// A number in decimal.
+pub(crate) fn number(line: &mut Line, at: usize, n: u64) -> usize {
+    let mut digits = [0u8; 20];
+    let k = io::decimal(n, &mut digits);
+    word(line, at, &digits[..k])
+}
+
+// A number whose last digit stands before a place, or that starts here where there is no room for that.
+pub(crate) fn number_right(line: &mut Line, at: usize, n: u64, end: usize) -> usize {
+    let mut digits = [0u8; 20];
+    let k = io::decimal(n, &mut digits);
+    let mut to = at;
+    if k < end {
+        to = fill(line, at, end - k);
+    }
+    word(line, to, &digits[..k])
+}
+
+// A number as eight hexadecimal digits.
+pub(crate) fn hex(line: &mut Line, at: usize, n: u32) -> usize {
+    let mut digits = [0u8; 16];
+    let k = io::hex(n as u64, 8, &mut digits);
+    word(line, at, &digits[..k])
+}
+
+// The place of a line's newline: the last of the room where the line was cut.
+fn last_place(at: usize) -> usize
+    ensures { λ r. ⌜ r < 256 ⌝ }
+{
+    if at < ROOM { at } else { ROOM - 1 }
+}
+
+// Writes the first n bytes of a text, or all of it where it is shorter.
 fn front(text: &[u8], n: usize) {
     if n <= text.len() {
         io::write_all(STDOUT_FILENO, &text[0..n]);
@@ -34,26 +89,15 @@ fn front(text: &[u8], n: usize) {
     }
 }
 
-// The spaces that follow `written` characters in a column of this width, which is at most 20.
-pub(crate) fn fill(written: usize, width: usize) {
-    if written < width {
-        front(b"                    ", width - written);
-    }
+// The newline, and the line written.
+pub(crate) fn end_line(line: &mut Line, at: usize) {
+    let last = last_place(at);
+    line[last] = b'\n';
+    front(line, last + 1);
 }
 
-// The spaces after `written` characters in the first column.
-pub(crate) fn pad(written: usize) {
-    fill(written, COLUMN);
-}
-
-// A number at the right of a column of this width.
-pub(crate) fn number_right(n: u64, width: usize) {
-    let mut text = [0u8; 20];
-    let k = io::decimal(n, &mut text);
-    fill(k, width);
-    io::write_all(STDOUT_FILENO, &text[..k]);
-}
-
-pub(crate) fn end_line() {
+// A line of a text that may be longer than the room: it is written as it stands.
+pub(crate) fn whole_line(text: &[u8]) {
+    io::write_all(STDOUT_FILENO, text);
     io::write_all(STDOUT_FILENO, b"\n");
 }

@@ -1,5 +1,6 @@
 // The receipt.
 use crate::names::refusal_name;
+use crate::put::ROOM;
 use crate::put::end_line;
 use crate::put::fill;
 use crate::put::number;
@@ -7,38 +8,47 @@ use crate::put::number_right;
 use crate::put::word;
 use ring::Receipt;
 
+// Where the column of the counts starts: after four spaces and a label of 14 characters.
+const COUNTS: usize = 18;
+
+// Where it ends: a count is at the right of 10 characters.
+const COUNTS_END: usize = 28;
+
 fn receipt_heading(refusal: u32) {
-    word(b"  Receipt");
+    let mut line = [0u8; ROOM];
+    let mut at = word(&mut line, 0, b"  Receipt");
     if refusal != 0 {
-        word(b": ");
-        refusal_name(refusal);
+        at = word(&mut line, at, b": ");
+        at = refusal_name(&mut line, at, refusal);
     }
-    end_line();
+    end_line(&mut line, at);
 }
 
 // A count, and what it is of.
 fn count_line(text: &[u8], count: u64, of: &[u8]) {
-    word(b"    ");
-    let n = word(text);
-    fill(n, 14);
-    number_right(count, 10);
-    word(b"   ");
-    word(of);
-    end_line();
+    let mut line = [0u8; ROOM];
+    let mut at = word(&mut line, 0, b"    ");
+    at = word(&mut line, at, text);
+    at = fill(&mut line, at, COUNTS);
+    at = number_right(&mut line, at, count, COUNTS_END);
+    at = word(&mut line, at, b"   ");
+    at = word(&mut line, at, of);
+    end_line(&mut line, at);
 }
 
 // How many of the readings begun were handed out.
 fn handed_line(handed: u64, begun: u64, complete: bool) {
-    word(b"    ");
-    number(handed);
-    word(b" of ");
-    number(begun);
-    word(b" readings handed out: ");
+    let mut line = [0u8; ROOM];
+    let mut at = word(&mut line, 0, b"    ");
+    at = number(&mut line, at, handed);
+    at = word(&mut line, at, b" of ");
+    at = number(&mut line, at, begun);
+    at = word(&mut line, at, b" readings handed out: ");
     if !complete {
-        word(b"not ");
+        at = word(&mut line, at, b"not ");
     }
-    word(b"complete");
-    end_line();
+    at = word(&mut line, at, b"complete");
+    end_line(&mut line, at);
 }
 
 // The receipt; a refused one has its zeros.

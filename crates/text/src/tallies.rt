@@ -2,6 +2,7 @@
 ghost use mathlib.Core.Path.{_≡_};
 ghost use Rattle.text.specs.Tallies.{noAnswers, counted};
 use crate::names::name;
+use crate::put::ROOM;
 use crate::put::end_line;
 use crate::put::number;
 use crate::put::pad;
@@ -37,11 +38,12 @@ fn tally_line(code: u32, count: u64) {
     if count == 0 {
         return;
     }
-    word(b"  ");
-    let n = name(code);
-    pad(n);
-    number(count);
-    end_line();
+    let mut line = [0u8; ROOM];
+    let mut at = word(&mut line, 0, b"  ");
+    at = name(&mut line, at, code);
+    at = pad(&mut line, at);
+    at = number(&mut line, at, count);
+    end_line(&mut line, at);
 }
 
 // A line for each kind that came.

@@ -5,10 +5,10 @@ use Rattle.text.proofs.lines.words.Statement.{statement}
 use Rattle.text.proofs.lines.words.Tie as tie
 
 abbrev Inv-loop : tie.InvT-loop
-Inv-loop words pages last p₀ p = Unit {0}
+Inv-loop line₀ at words pages last to₀ p₀ line to p = Unit {0}
 
 abbrev μ-loop : tie.MeasureT-loop
-μ-loop words pages last p₀ p = 17 - p
+μ-loop line₀ at words pages last to₀ p₀ line to p = 17 - p
 
 pub words-spec : {M : Type 1} → statement M
 words-spec =
