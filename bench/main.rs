@@ -1,9 +1,16 @@
-//! Times an action of the proved ring against the same loop in Rust, in one run: the rows take turns in each round, so that a slow moment of the
-//! machine falls on all of them. Prints the least and the median of the rounds, in nanoseconds an action, and each row's ratio to Rust with the test.
+//! Times an action of the proved ring against the same work in Rust, in one run: a loop of actions by value, and the replay of a trace. The rows take
+//! turns in each round, so that a slow moment of the machine falls on all of them. Prints the least and the median of the rounds, in nanoseconds an
+//! action, and each row's ratio to Rust with the test of shape.
 
 #[path = "../oracle/src/ring.rs"]
 #[allow(dead_code)]
 mod ring;
+#[path = "../oracle/src/text.rs"]
+#[allow(dead_code)]
+mod text;
+#[path = "../oracle/src/trace.rs"]
+#[allow(dead_code)]
+mod trace;
 
 use ring::{Action, Answer, Ring};
 use std::hint::black_box;
@@ -15,10 +22,14 @@ extern "C" {
     /// crates/bench: the loop by the methods, and by `Ring::act`; how many readings it handed out.
     fn bench_by_methods(actions: u32) -> u64;
     fn bench_by_act(actions: u32) -> u64;
+    /// The same crate: the replay of a trace, with three numbers for each answer; how many actions it made.
+    fn bench_replay(bytes: *const u8, length: usize, answers: *mut u64, room: usize) -> usize;
 }
 
 const ACTIONS: u32 = 2_000_000;
 const ROUNDS: usize = 15;
+/// How often the trace is replayed in a round.
+const TURNS: usize = 60;
 
 /// A Write while a writer is at work, then Reads until nothing waits, then a Begin.
 fn next_action(ring: &Ring, value: u32) -> Action {
@@ -59,48 +70,95 @@ fn rattle_act(actions: u32) -> u64 {
     unsafe { bench_by_act(actions) }
 }
 
+/// A trace of as many actions of that loop as a file has room for.
+fn loop_trace() -> Vec<u8> {
+    let mut bytes = b"PTR\x01\x00\x10\x10\x01".to_vec();
+    let (mut ring, _) = Ring::fresh(16, 16, 1);
+    let mut value = 0;
+    while bytes.len() + 5 <= trace::LONGEST {
+        let action = next_action(&ring, value);
+        ring.act(action);
+        value += 1;
+        match action {
+            Action::Begin(value) => {
+                bytes.push(1);
+                bytes.extend(value.to_le_bytes());
+            }
+            Action::Write => bytes.push(2),
+            Action::Read => bytes.push(3),
+        }
+    }
+    bytes
+}
+
+fn replay_tested(bytes: &[u8], answers: &mut [u64]) -> usize {
+    trace::replay_into(bytes, answers, Ring::act)
+}
+
+fn replay_untested(bytes: &[u8], answers: &mut [u64]) -> usize {
+    trace::replay_into(bytes, answers, Ring::act_in_shape)
+}
+
+fn replay_rattle(bytes: &[u8], answers: &mut [u64]) -> usize {
+    // SAFETY: a function of two slices, proved for every content of them; the two do not overlap.
+    unsafe { bench_replay(bytes.as_ptr(), bytes.len(), answers.as_mut_ptr(), answers.len()) }
+}
+
+/// What a row does, with what it must come to, and how many actions that is.
 struct Row {
     name: &'static str,
-    run: fn(u32) -> u64,
+    run: Box<dyn FnMut() -> (Vec<u64>, usize)>,
     times: Vec<f64>,
 }
 
-fn row(name: &'static str, run: fn(u32) -> u64) -> Row {
+fn row(name: &'static str, run: impl FnMut() -> (Vec<u64>, usize) + 'static) -> Row {
     Row {
         name,
-        run,
+        run: Box::new(run),
         times: Vec::new(),
     }
 }
 
-/// One turn of a row: nanoseconds an action, and how many readings were handed out.
-fn turn(run: fn(u32) -> u64) -> (f64, u64) {
-    let start = Instant::now();
-    let handed = run(black_box(ACTIONS));
-    (start.elapsed().as_nanos() as f64 / f64::from(ACTIONS), handed)
+/// A row of the loop: how many readings it handed out.
+fn loop_row(name: &'static str, run: fn(u32) -> u64) -> Row {
+    row(name, move || (vec![run(black_box(ACTIONS))], ACTIONS as usize))
 }
 
-/// A round: every row in turn; refused where they did not do the same work.
+/// A row of the replay: its answers.
+fn replay_row(name: &'static str, run: fn(&[u8], &mut [u64]) -> usize) -> Row {
+    let bytes = loop_trace();
+    let mut answers = vec![0; 3 * trace::LONGEST];
+    row(name, move || {
+        let mut made = 0;
+        for _ in 0..TURNS {
+            made += run(black_box(&bytes), black_box(&mut answers));
+        }
+        (answers.clone(), made)
+    })
+}
+
+/// A round: every row in turn; refused where they did not come to the same.
 fn round(rows: &mut [Row]) -> Result<(), String> {
-    let mut seen = Vec::new();
+    let mut seen = None;
     for row in rows.iter_mut() {
-        let (time, handed) = turn(row.run);
-        row.times.push(time);
-        seen.push(handed);
+        let start = Instant::now();
+        let came = (row.run)();
+        row.times.push(start.elapsed().as_nanos() as f64 / came.1 as f64);
+        match &seen {
+            None => seen = Some(came),
+            Some(first) if *first == came => (),
+            Some(_) => return Err(format!("'{}' comes to something else than the rows before it", row.name)),
+        }
     }
-    if seen.iter().all(|&handed| handed == seen[0]) {
-        Ok(())
-    } else {
-        Err(format!("the rows handed out {seen:?} readings"))
-    }
+    Ok(())
 }
 
 /// The table; the ratios are to row `base`.
-fn table(rows: &[Row], base: usize) -> String {
+fn table(heading: &str, rows: &[Row], base: usize) -> String {
     let ends = |row: &Row| (row.times[0], row.times[ROUNDS / 2]);
     let (least, median) = ends(&rows[base]);
     let mut text = format!(
-        "{ACTIONS} actions a round, {ROUNDS} rounds, the rows in turn; nanoseconds an action, and the ratio to '{}'\n",
+        "{heading}: {ROUNDS} rounds, the rows in turn; nanoseconds an action, and the ratio to '{}'\n",
         rows[base].name
     );
     text += &format!("{:<34}{:>8}{:>8}{:>8}{:>8}\n", "", "least", "ratio", "median", "ratio");
@@ -116,20 +174,35 @@ fn table(rows: &[Row], base: usize) -> String {
     text
 }
 
-fn run() -> Result<(), String> {
-    let mut rows = [
-        row("Rust, in place, no test of shape", rust_untested),
-        row("Rust, in place, shape tested", rust_tested),
-        row("Rattle, by value, the methods", rattle_methods),
-        row("Rattle, by value, Ring::act", rattle_act),
-    ];
+/// The rounds of some rows, as a table.
+fn timed(heading: &str, mut rows: Vec<Row>) -> Result<String, String> {
     for _ in 0..ROUNDS {
         round(&mut rows)?;
     }
     rows.iter_mut().for_each(|row| row.times.sort_by(f64::total_cmp));
-    let text = table(&rows, 1);
+    Ok(table(heading, &rows, 1))
+}
+
+fn run() -> Result<(), String> {
+    let actions = timed(
+        "A loop of actions",
+        vec![
+            loop_row("Rust, in place, no test of shape", rust_untested),
+            loop_row("Rust, in place, shape tested", rust_tested),
+            loop_row("Rattle, by value, the methods", rattle_methods),
+            loop_row("Rattle, by value, Ring::act", rattle_act),
+        ],
+    )?;
+    let replays = timed(
+        "Replay of a full trace",
+        vec![
+            replay_row("Rust, in place, no test of shape", replay_untested),
+            replay_row("Rust, in place, shape tested", replay_tested),
+            replay_row("Rattle, trace::replay", replay_rattle),
+        ],
+    )?;
     io::stdout()
-        .write_all(text.as_bytes())
+        .write_all(format!("{actions}\n{replays}").as_bytes())
         .map_err(|error| format!("standard output: {error}"))
 }
 

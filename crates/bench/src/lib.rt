@@ -1,6 +1,9 @@
-// The loop that is timed, with actions by value, each on the ring that the last one returned: by the methods themselves, and by `Ring::act`.
+// What is timed: a loop of actions by value, each on the ring that the last one returned, by the methods themselves and by `Ring::act`; and the replay
+// of a trace, in place.
 ghost use mathlib.Core.Path.{_≡_};
 ghost use Rattle.bench.specs.Loop.{nextAction, handedAfter};
+ghost use Rattle.trace.specs.Header.{firstAction};
+ghost use Rattle.trace.specs.Replays.{replayedFrom, roomFrom};
 use ring::Action;
 use ring::Ring;
 
@@ -57,4 +60,13 @@ pub extern "C" fn bench_by_act(actions: u32) -> u64
         i = i + 1;
     }
     s.ring.counts.handed
+}
+
+// The replay of a trace, with its answers in the room lent; the answer is how many actions it made.
+#[no_mangle]
+pub extern "C" fn bench_replay(bytes: &[u8], answers: &mut [u64]) -> usize
+    ensures { λ r. ⌜ (r ≡ replayedFrom (now (bytes .entry)) firstAction (now (answers .entry)) .made) × (now (answers .exit) ≡ roomFrom (now (bytes .entry)) firstAction (now (answers .entry))) ⌝ }
+{
+    let run = trace::replay(bytes, answers);
+    run.made
 }
