@@ -6,7 +6,7 @@ use Rattle.bench.proofs.bench_replay.Statement.{statement}
 use Rattle.bench.proofs.bench_replay.Tie as tie
 
 returns : tie.Need-returns
-returns c = ?
+returns c = (ap (λ (r : Replay). r .made) (c .before .before .replay .ensures .0), c .before .before .replay .ensures .1)
 
 pub bench-replay-spec : {M : Type 1} → statement M
 bench-replay-spec = tie.close (tie.spec (λ c κs. search needs) (λ c. search needs) returns)
