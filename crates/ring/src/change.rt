@@ -41,7 +41,14 @@ pub(crate) fn top_at(depth: u32) -> usize
 }
 
 // An answer, and nothing else.
-fn unchanged(answer: Answer, w: Writer, places: Places, counts: Counts, depth: u32, reader: Reader) -> Change
+fn unchanged(
+    answer: Answer,
+    w: Writer,
+    places: Places,
+    counts: Counts,
+    depth: u32,
+    reader: Reader,
+) -> Change
     ensures { λ r. ⌜ r ≡ unchanged answer w places counts depth reader ⌝ }
 {
     let top = top_at(depth);
@@ -58,7 +65,14 @@ fn unchanged(answer: Answer, w: Writer, places: Places, counts: Counts, depth: u
     }
 }
 
-fn begin_change(value: u32, w: Writer, places: Places, counts: Counts, depth: u32, reader: Reader) -> Change
+fn begin_change(
+    value: u32,
+    w: Writer,
+    places: Places,
+    counts: Counts,
+    depth: u32,
+    reader: Reader,
+) -> Change
     requires { ⌜ (depth ≤ mostDepth) × (counts .begun ≤ mostCount) ⌝ }
     ensures { λ r. ⌜ r ≡ beginChange value w places counts depth reader ⌝ }
 {
@@ -189,7 +203,18 @@ pub(crate) fn change_by<'a>(
     match action {
         Action::Begin(value) => begin_change(value, w, places, counts, depth, reader),
         Action::Write => write_change(w, size, places, counts, depth, reader, words, used),
-        Action::Read => read_change(w, size, places, counts, depth, reader, words, used, numbers, values),
+        Action::Read => read_change(
+            w,
+            size,
+            places,
+            counts,
+            depth,
+            reader,
+            words,
+            used,
+            numbers,
+            values,
+        ),
     }
 }
 

@@ -9,11 +9,11 @@ ghost use Rattle.ring.specs.Replay.{laidAt, answerNumbers, replay, refus
 use crate::actions::Coded;
 use crate::actions::action_at;
 use crate::change::change_by;
-use crate::change::top_at;
 use crate::change::store_numbers;
 use crate::change::store_used;
 use crate::change::store_values;
 use crate::change::store_words;
+use crate::change::top_at;
 use crate::codes::Numbers;
 use crate::state::Answer;
 use crate::state::Refusal;

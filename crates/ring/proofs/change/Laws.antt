@@ -102,14 +102,14 @@ module _ (r : Ring) (s : InShape r) where
         tail = omega (arith, s);
         phase = λ n. top-fits r s n;
         moved = λ n.
-          record {
-            move = plan-fits r s n;
-            tail = omega (arith, s);
-            taken = s .taken;
-            overwritten = s .overwritten;
-            dropped = s .dropped;
-            somebody = omega (arith, n);
-          };
+            record {
+              move = plan-fits r s n;
+              tail = omega (arith, s);
+              taken = s .taken;
+              overwritten = s .overwritten;
+              dropped = s .dropped;
+              somebody = omega (arith, n);
+            };
       }
   change-fits Read =
       record {

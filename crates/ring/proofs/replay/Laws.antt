@@ -166,17 +166,17 @@ module _ {r0 : Ring} {bytes room0 : List ℕ} {r : Ring} {room : List ℕ} {at m
         done = so-far ++ one a;
         ring = changes ∙ sym (agrees .ring) ∙ ap (λ (q : Ring). act q a .ring) (p .ring) ∙ sym (after-more r0 so-far a);
         answers =
-          lays
-          ∙ ap (λ (l : List ℕ). laidAt l (answerNumbers * made) (changeOf r a .answer)) (p .answers)
-          ∙ ap (λ (k : ℕ). laidAt (over front room0) k (changeOf r a .answer)) (sym long)
-          ∙ ap (λ (n : Numbers). laidAt (over front room0) (length front) n) number
-          ∙ lay-more front room0 (numbersOf here) (omega arith)
-          ∙ ap (λ (l : List ℕ). over l room0) (sym (laid-more (answersOf r0 so-far) here) ∙ ap laid (sym (answers-more r0 so-far a)));
+            lays
+            ∙ ap (λ (l : List ℕ). laidAt l (answerNumbers * made) (changeOf r a .answer)) (p .answers)
+            ∙ ap (λ (k : ℕ). laidAt (over front room0) k (changeOf r a .answer)) (sym long)
+            ∙ ap (λ (n : Numbers). laidAt (over front room0) (length front) n) number
+            ∙ lay-more front room0 (numbersOf here) (omega arith)
+            ∙ ap (λ (l : List ℕ). over l room0) (sym (laid-more (answersOf r0 so-far) here) ∙ ap laid (sym (answers-more r0 so-far a)));
         count = ap (λ (k : ℕ). k + 1) (p .count) ∙ sym (length-append so-far (one a));
         rest =
-          p .rest
-          ∙ ap (beforeAll so-far) (decoded-whole bytes at coded)
-          ∙ ap (λ (l : List Action). ends l (decodedFrom bytes to .stop)) (sym (append-snoc so-far a (decodedFrom bytes to .actions)));
+            p .rest
+            ∙ ap (beforeAll so-far) (decoded-whole bytes at coded)
+            ∙ ap (λ (l : List Action). ends l (decodedFrom bytes to .stop)) (sym (append-snoc so-far a (decodedFrom bytes to .actions)));
         within = moves .1;
         fewer = omega arith;
       }

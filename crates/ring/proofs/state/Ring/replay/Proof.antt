@@ -40,21 +40,23 @@ fresh-ring : (c : tie.After-fresh) → c .fresh .result .ring ≡ freshRing (siz
 fresh-ring c = ap (λ (o : Outcome). o .ring) (c .fresh .ensures) ∙ fresh-is (start c .args .pages) (start c .args .slots) (start c .args .mode) (fits (c .before .before))
 
 run-requires : tie.Need-run-requires
-run-requires c κs =
-    (record {
-      size = sizeOf (start (c .before) .args .pages) (start (c .before) .args .slots) (start (c .before) .args .mode);
-      fits = fits (c .before .before .before);
-      past = [];
-      reached = fresh-ring (c .before);
-    },
-    omega arith)
+run-requires c κs = (
+  record {
+    size = sizeOf (start (c .before) .args .pages) (start (c .before) .args .slots) (start (c .before) .args .mode);
+    fits = fits (c .before .before .before);
+    past = [];
+    reached = fresh-ring (c .before);
+  },
+  omega arith,
+)
 
 returns-3 : tie.Need-returns-3
 returns-3 c =
     let f = c .before .before .before .before in
-    let enough = le-ltb _ _ (f .before .if2 .left) in
-    (rw (fits (f .before .before), enough) (c .before .before .run .ensures .0 ∙ ap (λ (r : Ring). ran r (decoded (start f .args .bytes .now))) (fresh-ring f)),
-    rw (fits (f .before .before), enough) (c .before .before .run .ensures .1 ∙ ap (λ (r : Ring). ranRoom r (decoded (start f .args .bytes .now)) (start f .args .room .now)) (fresh-ring f)))
+    let enough = le-ltb _ _ (f .before .if2 .left) in (
+      rw (fits (f .before .before), enough) (c .before .before .run .ensures .0 ∙ ap (λ (r : Ring). ran r (decoded (start f .args .bytes .now))) (fresh-ring f)),
+      rw (fits (f .before .before), enough) (c .before .before .run .ensures .1 ∙ ap (λ (r : Ring). ranRoom r (decoded (start f .args .bytes .now)) (start f .args .room .now)) (fresh-ring f)),
+    )
 
 pub replay-spec : {M : Type 1} → statement M
 replay-spec =
