@@ -1,2 +1,3 @@
 -- What the proofs about actions as bytes share.
 pub mod Laws
+pub mod Shift

@@ -1,9 +1,10 @@
 -- Actions as bytes. Request E1: "Then actions: byte 1 and four value bytes, low first, for Begin; 2 for Write; 3 for Read." What stands at a place, the list of
 -- actions that some bytes are and where it stops, and the bytes of a list.
 -- Assumes nothing.
+use mathlib.Core.Path.{_≡_}
 use mathlib.Core.Bool.{cond}
 use mathlib.Core.List.{List, [], _∷_, _++_}
-use Prim.Native.Nat.{ℕ, zero, suc, _+_, _-_, _*_, _/_, _%_}
+use Prim.Native.Nat.{ℕ, zero, suc, _+_, _-_, _*_, _/_, _%_, _≤_}
 use lib.Dec.{eqb, leb, ltb}
 use lib.ListN.{length, getD}
 use Rattle.ring.specs.Lists.{first}
@@ -74,12 +75,27 @@ abbrev pub decodedWithin : ℕ → List ℕ → ℕ → Decoded
 decodedWithin zero bytes at = stopped at
 decodedWithin (suc k) bytes at = goOn (codedAt bytes at) (decodedWithin k bytes) at
 
--- each action has a byte at least, so there are no more than bytes are left: `decoded-whole` and `decoded-stops` (proofs/actions/Laws)
+-- each action has a byte at least, so there are no more of them than bytes are left; that no action is left out is `Decodes`, below
 unfoldable pub decodedFrom : List ℕ → ℕ → Decoded
 decodedFrom bytes at = decodedWithin (length bytes - at) bytes at
 
 abbrev pub decoded : List ℕ → Decoded
 decoded bytes = decodedFrom bytes 0
+
+-- no whole action stands there
+abbrev pub Stops : Coded → Type 0
+Stops (Whole a next) = ⊥
+Stops Broken = Unit {0}
+Stops End = Unit {0}
+
+-- what holds of the actions from a place on (`decodes`, proofs/actions/Laws): a whole action comes first, where none stands there is none, and they stop where no
+-- whole action stands: at the end of the bytes, or else at "an unknown or cut action"
+pub record Decodes (bytes : List ℕ) (at : ℕ) : Type 0 where
+  pub whole : (a : Action) (next : ℕ) → codedAt bytes at ≡ Whole a next → decodedFrom bytes at ≡ before a (decodedFrom bytes next)
+  pub none : Stops (codedAt bytes at) → decodedFrom bytes at ≡ stopped at
+  pub within : at ≤ length bytes → decodedFrom bytes at .stop ≤ length bytes
+  pub ended : at ≤ length bytes → decodedFrom bytes at .stop ≡ length bytes → codedAt bytes (decodedFrom bytes at .stop) ≡ End
+  pub broken : at ≤ length bytes → (decodedFrom bytes at .stop ≡ length bytes → ⊥) → codedAt bytes (decodedFrom bytes at .stop) ≡ Broken
 
 -- ---- to bytes
 

@@ -4,16 +4,16 @@
 use mathlib.Core.Path.{_≡_}
 use mathlib.Core.Bool.{true}
 use mathlib.Core.List.{List}
-use Prim.Native.Nat.{ℕ, _+_, _-_, _≤_, _<_}
+use Prim.Native.Nat.{ℕ, _+_, _-_, _≤_}
 use lib.ListN.{set}
-use Rattle.ring.specs.Limits.{mostPages, mostSlots, slotRoom, mostDepth, mostCount}
+use Rattle.ring.specs.Limits.{mostPages, mostSlots, mostDepth, mostCount}
 use Rattle.ring.specs.State.{writer, countsBegun, countsHanded, withStack, withCounts, withPlaces, withDepth, withReader, withWords, withUsed, withNumbers, withValues, top}
 use Rattle.ring.specs.Codes.{numbersOf}
 use Rattle.ring.specs.Refusals.{beginVerdict, writeVerdict}
 use Rattle.ring.specs.Shape.{writerFits, readerFits}
 use Rattle.ring.specs.Write.{planPhase}
 use Rattle.ring.specs.Read.{planReader}
-use Rattle.ring.specs.Pieces.{answerAfter, countsAfter, placesAfter, depthAfter, recordAfter, storesAfter, readAnswer, readHanded, readPlaces, readPhase, readStores, MoveFits, FetchFits, EventFits}
+use Rattle.ring.specs.Pieces.{answerAfter, countsAfter, placesAfter, depthAfter, recordAfter, storesAfter, readAnswer, readHanded, readPlaces, readPhase, readStores, wordsStored, usedStored, numbersStored, valuesStored, MoveFits, FetchFits, EventFits}
 use Rattle.ring.specs.declared.state.Size.{Size}
 use Rattle.ring.specs.declared.state.Places.{Places}
 use Rattle.ring.specs.declared.state.Counts.{Counts}
@@ -30,14 +30,14 @@ use Rattle.ring.specs.declared.moves.Verdict.the-variants.{Allowed, Refu
 use Rattle.ring.specs.declared.moves.Move.{Move}
 use Rattle.ring.specs.declared.moves.Fetch.{Fetch}
 use Rattle.ring.specs.declared.moves.Stores.{Stores}
-use Rattle.ring.specs.declared.moves.Stores.the-variants.{Same, Number, Take, Word, Value}
+use Rattle.ring.specs.declared.moves.Stores.the-variants.{Same}
 use Rattle.ring.specs.declared.moves.Change.{Change}
 
 abbrev pub change : Answer → ℕ → Writer → Counts → Places → ℕ → Reader → Stores → Change
 change a at w counts places depth reader stores =
     record {
       answer = numbersOf a;
-      top = at;
+      at = at;
       writer = w;
       counts = counts;
       places = places;
@@ -99,39 +99,10 @@ abbrev pub changeOf : Ring → Action → Change
 changeOf r a =
     changeBy a (top r) (r .size) (r .places) (r .counts) (r .depth) (r .reader) (r .words) (r .used) (r .numbers) (r .values)
 
--- the cells stored to, an array at a time
-abbrev pub wordsStored : Stores → List ℕ → List ℕ
-wordsStored Same words = words
-wordsStored (Number at number t k) words = words
-wordsStored (Take t word n) words = set words (t .0) word
-wordsStored (Word p word) words = set words (p .0) word
-wordsStored (Value at value) words = words
-
-abbrev pub usedStored : Stores → List ℕ → List ℕ
-usedStored Same used = used
-usedStored (Number at number t k) used = set used (t .0) k
-usedStored (Take t word n) used = set used (n .0) 0
-usedStored (Word p word) used = used
-usedStored (Value at value) used = used
-
-abbrev pub numbersStored : Stores → List ℕ → List ℕ
-numbersStored Same numbers = numbers
-numbersStored (Number at number t k) numbers = set numbers at (number .0)
-numbersStored (Take t word n) numbers = numbers
-numbersStored (Word p word) numbers = numbers
-numbersStored (Value at value) numbers = numbers
-
-abbrev pub valuesStored : Stores → List ℕ → List ℕ
-valuesStored Same values = values
-valuesStored (Number at number t k) values = values
-valuesStored (Take t word n) values = values
-valuesStored (Word p word) values = values
-valuesStored (Value at value) values = set values at value
-
 -- the pieces stored
 abbrev pub changed : Change → Ring → Ring
 changed c r =
-    withStack (set (r .stack) (c .top) (c .writer))
+    withStack (set (r .stack) (c .at) (c .writer))
     (withCounts (c .counts)
     (withPlaces (c .places)
     (withDepth (c .depth)
@@ -141,14 +112,6 @@ changed c r =
     (withNumbers (numbersStored (c .stores) (r .numbers)) (withValues (valuesStored (c .stores) (r .values)) r))))))))
 
 -- ---- what the code asks of the pieces: a ring in shape has it (`change-fits`)
-
--- the cells named are within the arrays
-abbrev pub StoresFit : Stores → Type 0
-StoresFit Same = Unit {0}
-StoresFit (Number at number t used) = (at < slotRoom) × (t .0 ≤ mostPages)
-StoresFit (Take t word n) = (t .0 ≤ mostPages) × (n .0 ≤ mostPages)
-StoresFit (Word p word) = p .0 ≤ mostPages
-StoresFit (Value at value) = at < slotRoom
 
 pub record MovedFits (m : Move) (places : Places) (counts : Counts) (depth : ℕ) : Type 0 where
   pub move : MoveFits m

@@ -1,8 +1,13 @@
--- An answer as numbers: the code of its kind, in the order of the tally, and the values in its brackets. Assumes nothing.
+-- An answer as numbers: the code of its kind, and the values in its brackets. Another answer has other numbers (`answer-back`, proofs/codes/Laws), and the values are
+-- those that the answer tells (`values-told`). Assumes nothing.
+use mathlib.Core.List.{[], _∷_}
 use Prim.Native.Nat.{ℕ, _+_}
+use lib.ListN.{getD}
 use Rattle.ring.specs.declared.state.Refusal.{Refusal}
+use Rattle.ring.specs.declared.state.Refusal.the-variants.{Shape, Depth, Nobody, Worn, SetUp, Mark, Version, Sizes, Action, Room}
 use Rattle.ring.specs.declared.state.Answer.{Answer}
 use Rattle.ring.specs.declared.state.Answer.the-variants.{Accepted, Begun, Reserved, Looked, Dropped, Marked, Shared, Retry, Promoted, Standing, Cleared, Pushed, Passed, Filled, Committed, Pending, Event, Empty, Found, Busy, Prepared, Swapped, Missed, Refused}
+use Rattle.ring.specs.State.{reading}
 use Rattle.ring.specs.Answers.{numberOf}
 use Rattle.ring.specs.declared.codes.Numbers.{Numbers}
 
@@ -48,3 +53,44 @@ numbersOf Prepared = kind 20
 numbersOf Swapped = kind 21
 numbersOf Missed = kind 22
 numbersOf (Refused why) = kind (refusalCode why)
+
+-- the answer that some numbers are: its kind by the code, with the values
+abbrev pub answerOf : Numbers → Answer
+answerOf n =
+    getD
+    (Accepted
+    ∷ Begun (n .first)
+    ∷ Reserved (reading (n .first))
+    ∷ Looked
+    ∷ Dropped
+    ∷ Marked
+    ∷ Shared
+    ∷ Retry
+    ∷ Promoted
+    ∷ Standing
+    ∷ Cleared
+    ∷ Pushed
+    ∷ Passed
+    ∷ Filled
+    ∷ Committed (n .first)
+    ∷ Pending
+    ∷ Event (reading (n .first)) (n .second)
+    ∷ Empty
+    ∷ Found
+    ∷ Busy
+    ∷ Prepared
+    ∷ Swapped
+    ∷ Missed
+    ∷ Refused Shape
+    ∷ Refused Depth
+    ∷ Refused Nobody
+    ∷ Refused Worn
+    ∷ Refused SetUp
+    ∷ Refused Mark
+    ∷ Refused Version
+    ∷ Refused Sizes
+    ∷ Refused Action
+    ∷ Refused Room
+    ∷ [])
+    (n .code)
+    Accepted

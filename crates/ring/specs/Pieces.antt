@@ -91,13 +91,48 @@ readStores fetch.Miss reader words = stores.Same
 
 -- ---- the cells stored to, and what the code asks of what is decided
 
+-- an array at a time
+abbrev pub wordsStored : Stores → List ℕ → List ℕ
+wordsStored stores.Same words = words
+wordsStored (stores.Number at number t k) words = words
+wordsStored (stores.Take t word n) words = set words (t .0) word
+wordsStored (stores.Word p word) words = set words (p .0) word
+wordsStored (stores.Value at value) words = words
+
+abbrev pub usedStored : Stores → List ℕ → List ℕ
+usedStored stores.Same used = used
+usedStored (stores.Number at number t k) used = set used (t .0) k
+usedStored (stores.Take t word n) used = set used (n .0) 0
+usedStored (stores.Word p word) used = used
+usedStored (stores.Value at value) used = used
+
+abbrev pub numbersStored : Stores → List ℕ → List ℕ
+numbersStored stores.Same numbers = numbers
+numbersStored (stores.Number at number t k) numbers = set numbers at (number .0)
+numbersStored (stores.Take t word n) numbers = numbers
+numbersStored (stores.Word p word) numbers = numbers
+numbersStored (stores.Value at value) numbers = numbers
+
+abbrev pub valuesStored : Stores → List ℕ → List ℕ
+valuesStored stores.Same values = values
+valuesStored (stores.Number at number t k) values = values
+valuesStored (stores.Take t word n) values = values
+valuesStored (stores.Word p word) values = values
+valuesStored (stores.Value at value) values = set values at value
+
+-- all four
 abbrev pub stored : Stores → Ring → Ring
-stored stores.Same r = r
-stored (stores.Number at number t k) r =
-    withUsed (set (r .used) (t .0) k) (withNumbers (set (r .numbers) at (number .0)) r)
-stored (stores.Take t word n) r = withUsed (set (r .used) (n .0) 0) (withWords (set (r .words) (t .0) word) r)
-stored (stores.Word p word) r = withWords (set (r .words) (p .0) word) r
-stored (stores.Value at value) r = withValues (set (r .values) at value) r
+stored s r =
+    withWords (wordsStored s (r .words))
+    (withUsed (usedStored s (r .used)) (withNumbers (numbersStored s (r .numbers)) (withValues (valuesStored s (r .values)) r)))
+
+-- the cells named are within the arrays
+abbrev pub StoresFit : Stores → Type 0
+StoresFit stores.Same = Unit {0}
+StoresFit (stores.Number at number t used) = (at < slotRoom) × (t .0 ≤ mostPages)
+StoresFit (stores.Take t word n) = (t .0 ≤ mostPages) × (n .0 ≤ mostPages)
+StoresFit (stores.Word p word) = p .0 ≤ mostPages
+StoresFit (stores.Value at value) = at < slotRoom
 
 -- the pages and slots that a move names are such as the ring has room for: what the code that reads and stores them asks
 abbrev pub MoveFits : Move → Type 0

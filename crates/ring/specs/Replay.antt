@@ -23,7 +23,7 @@ use Rattle.ring.specs.declared.state.Action.{Action}
 use Rattle.ring.specs.declared.state.Ring.{Ring}
 use Rattle.ring.specs.declared.state.Replay.{Replay}
 
--- ---- the actions one by one, each on the ring that the last one returned
+-- ---- the actions one by one, each on the ring that the last one returned. The ring is that of the run that demand 3 speaks of (`after-now`, proofs/replay/Laws)
 
 abbrev pub ringAfter : Ring → List Action → Ring
 ringAfter r [] = r
@@ -42,7 +42,7 @@ abbrev pub laid : List Answer → List ℕ
 laid [] = []
 laid (a ∷ rest) = numbersOf a .code ∷ numbersOf a .first ∷ numbersOf a .second ∷ laid rest
 
--- the front of the room filled, "the rest kept"
+-- the front of the room filled, the rest kept
 abbrev pub over : List ℕ → List ℕ → List ℕ
 over front old = front ++ drop (length front) old
 
@@ -55,10 +55,11 @@ laidAt room at n = set (set (set room at (n .code)) (at + 1) (n .first)) (at + 2
 abbrev pub replay : Ring → Answer → ℕ → ℕ → Replay
 replay r a made stop = record { ring = r; answer = a; made = made; stop = stop }
 
--- nothing was begun: the plain ring
+-- refused before the first action: the plain ring
 abbrev pub refusedReplay : Refusal → Replay
 refusedReplay why = replay plainRing (Refused why) 0 0
 
+-- all of them made, from ring r; that the bytes may break off is told by the stop alone
 abbrev pub ran : Ring → Decoded → Replay
 ran r d = replay (ringAfter r (d .actions)) Accepted (length (d .actions)) (d .stop)
 

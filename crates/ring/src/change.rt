@@ -3,7 +3,8 @@
 ghost use mathlib.Core.Path.{_≡_};
 ghost use Prim.Native.Nat.{_≤_};
 ghost use Rattle.ring.specs.Limits.{mostDepth, mostCount};
-ghost use Rattle.ring.specs.Change.{topAt, unchanged, beginChange, movedChange, writeChange, readChange, changeBy, wordsStored, usedStored, numbersStored, valuesStored, StoresFit, MovedFits, WriteFits, ReadFits, ChangeFits};
+ghost use Rattle.ring.specs.Pieces.{wordsStored, usedStored, numbersStored, valuesStored, StoresFit};
+ghost use Rattle.ring.specs.Change.{topAt, unchanged, beginChange, movedChange, writeChange, readChange, changeBy, MovedFits, WriteFits, ReadFits, ChangeFits};
 use crate::begin::begin_verdict;
 use crate::cells::wanting;
 use crate::codes::answer_numbers;
@@ -55,7 +56,7 @@ fn unchanged(
     let numbers = answer_numbers(answer);
     Change {
         answer: numbers,
-        top,
+        at: top,
         writer: w,
         counts,
         places,
@@ -85,7 +86,7 @@ fn begin_change(
     let answer = answer_numbers(Answer::Begun(depth + 1));
     Change {
         answer,
-        top: depth as usize,
+        at: depth as usize,
         writer: record,
         counts: next,
         places,
@@ -119,7 +120,7 @@ fn moved_change<'a>(
     let next_depth = depth_after(m, depth);
     Change {
         answer,
-        top,
+        at: top,
         writer: record,
         counts: next_counts,
         places: next_places,
@@ -174,7 +175,7 @@ fn read_change<'a>(
     let next_reader = read_phase(f, reader);
     Change {
         answer,
-        top,
+        at: top,
         writer: w,
         counts: next_counts,
         places: next_places,

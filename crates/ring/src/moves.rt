@@ -76,7 +76,7 @@ pub enum Fetch {
 pub struct Change {
     pub answer: Numbers,
     // a place of the stack, and the record that it gets
-    pub top: usize,
+    pub at: usize,
     pub writer: Writer,
     pub counts: Counts,
     pub places: Places,

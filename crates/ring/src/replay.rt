@@ -33,7 +33,7 @@ fn lay_answer(room: &mut [u64], at: usize, n: Numbers)
     room[at + 2] = n.second;
 }
 
-// Nothing was begun: the plain ring, with the refusal.
+// Refused before the first action: the plain ring.
 pub fn refused_replay(why: Refusal) -> Replay
     ensures { λ r. ⌜ r ≡ refusedReplay why ⌝ }
 {
@@ -67,15 +67,14 @@ impl Ring {
         let mut at: usize = 0;
         let mut made: usize = 0;
         while let Coded::Whole(action, next) = action_at(bytes, at) {
-            let depth = self.depth;
-            let w = self.stack[top_at(depth)];
+            let w = self.stack[top_at(self.depth)];
             let c = change_by(
                 action,
                 w,
                 self.size,
                 self.places,
                 self.counts,
-                depth,
+                self.depth,
                 self.reader,
                 &self.words,
                 &self.used,
@@ -83,13 +82,13 @@ impl Ring {
                 &self.values,
             );
             lay_answer(room, ANSWER_NUMBERS * made, c.answer);
-            let top = c.top;
+            let place = c.at;
             let writer = c.writer;
             let counts = c.counts;
             let places = c.places;
             let reader = c.reader;
             let stores = c.stores;
-            self.stack[top] = writer;
+            self.stack[place] = writer;
             self.counts = counts;
             self.places = places;
             self.depth = c.depth;
@@ -104,8 +103,9 @@ impl Ring {
         ended(self, made, at)
     }
 
-    // The actions of `bytes` on the ring of a set-up, with their answers in the room lent, ANSWER_NUMBERS numbers each. Refused with SETUP where
-    // `fresh` refuses, and with ROOM where there is no place for an answer to each byte.
+    // The actions of `bytes` on the ring of a set-up, up to the first that is unknown or cut: `stop` says where, and the answer is Accepted there too.
+    // Their answers are in the room lent, ANSWER_NUMBERS numbers each. Refused with SETUP where `fresh` refuses, and with ROOM where the room has no
+    // place for an answer to each byte: there may be as many actions.
     pub fn replay(pages: u32, slots: u32, mode: u32, bytes: &[u8], room: &mut [u64]) -> Replay
         ensures { λ r. ⌜ (r ≡ replayRule pages slots mode (now (bytes .entry)) (now (room .entry))) × (now (room .exit) ≡ roomRule pages slots mode (now (bytes .entry)) (now (room .entry))) ⌝ }
     {

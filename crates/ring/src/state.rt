@@ -166,13 +166,13 @@ pub struct Receipt {
 
 // What a replay of actions gives back; their answers are in the room that was lent.
 pub struct Replay {
-    // after the last action made; the plain ring where none was begun
+    // after the last action made; the plain ring where the replay was refused before the first
     pub ring: Ring,
     // Accepted, or why the replay was refused
     pub answer: Answer,
     // how many actions were made
     pub made: usize,
-    // where they end: the place of the first byte after them
+    // where they end: the place of the first byte after them, and 0 where the replay was refused before the first
     pub stop: usize,
 }
 

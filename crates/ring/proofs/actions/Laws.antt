@@ -1,11 +1,11 @@
 -- The actions that some bytes are, one after the other: where a whole action stands it comes first, and the rest is what follows it; where none stands,
--- nothing follows. Assumes nothing.
+-- nothing follows: `decodes`. Assumes nothing.
 use mathlib.Core.Path.{_≡_, refl, subst, ap, _∙_}
 use mathlib.Core.Logic.{inl, inr}
 use mathlib.Core.List.{List, [], _∷_}
 use Prim.Native.Nat.{ℕ, zero, suc, _+_, _-_, _<_, _≤_}
 use native.Mathlib.Omega.{arith}
-use borrow.Author.Tests.{leb-false, ltb-false, le-leb}
+use borrow.Author.Tests.{leb-true, leb-false, ltb-false, le-leb}
 use types.Run.{OneOf}
 use denote.Enum.Declared.{tagOf}
 use lib.Dec.{eqb, leb, ltb}
@@ -13,7 +13,7 @@ use lib.ListN.{length}
 use Rattle.ring.specs.declared.state.Action.{Action}
 use Rattle.ring.specs.declared.actions.Coded.{Coded}
 use Rattle.ring.specs.declared.actions.Coded.the-variants.{Whole, Broken, End}
-use Rattle.ring.specs.Actions.{Decoded, beginCode, writeCode, readCode, beginLength, byteAt, beginAt, codedAt, stopped, before, goOn, decodedWithin, decodedFrom}
+use Rattle.ring.specs.Actions.{Decoded, beginCode, writeCode, readCode, beginLength, byteAt, beginAt, codedAt, stopped, before, goOn, decodedWithin, decodedFrom, Stops, Decodes}
 use Rattle.ring.proofs.actions.Coded.{the-type}
 use Rattle.ring.proofs.Lists.{by-cond}
 
@@ -74,13 +74,7 @@ module _ (bytes : List ℕ) where
   unfolding decodedFrom
   stop-within at l = within-stops (length bytes - at) at l
 
--- no whole action stands there
-abbrev pub Stops : Coded → Type 0
-Stops (Whole a next) = ⊥
-Stops Broken = Unit {0}
-Stops End = Unit {0}
-
--- .. where the code has told so by the numbers of the variants
+-- no whole action stands there, where the code has told so by the numbers of the variants
 pub stops-of-numbers : (c : Coded) → OneOf (1 ∷ 2 ∷ []) (tagOf the-type c) → Stops c
 stops-of-numbers (Whole a next) (inl o) = absurd (omega arith)
 stops-of-numbers (Whole a next) (inr o) = absurd (omega arith)
@@ -104,3 +98,52 @@ module _ (bytes : List ℕ) (at : ℕ) where
 
   pub decoded-stops : {c : Coded} → codedAt bytes at ≡ c → Stops c → decodedFrom bytes at ≡ stopped at
   decoded-stops {c} e s = one-more ∙ ap (λ (c : Coded). goOn c (decodedFrom bytes) at) e ∙ stops c s
+
+-- ---- they stop where no whole action stands
+
+-- what stands below the end is something
+abbrev Something : Coded → Type 0
+Something (Whole a next) = Unit {0}
+Something Broken = Unit {0}
+Something End = ⊥
+
+module _ (bytes : List ℕ) where
+  begin-something : (at : ℕ) → Something (beginAt bytes at)
+  begin-something at = by-cond Something (ltb (length bytes - at) beginLength) (λ _. tt) (λ _. tt)
+
+  something : (at : ℕ) → at < length bytes → Something (codedAt bytes at)
+  something at l =
+      by-cond Something (leb (length bytes) at)
+      (λ h. let m = leb-true (length bytes) at h in absurd (omega arith))
+      (λ _. by-cond Something (eqb (byteAt bytes at) beginCode) (λ _. begin-something at)
+      (λ _. by-cond Something (eqb (byteAt bytes at) writeCode) (λ _. tt)
+      (λ _. by-cond Something (eqb (byteAt bytes at) readCode) (λ _. tt) (λ _. tt))))
+
+  goes-stops : (at : ℕ) (f : ℕ → Decoded) → ((next : ℕ) → at < next → Stops (codedAt bytes (f next .stop))) → (c : Coded) → codedAt bytes at ≡ c
+      → Stops (codedAt bytes (goOn c f at .stop))
+  goes-stops at f h (Whole a next) e = h next (whole-moves bytes at e .0)
+  goes-stops at f h Broken e = rw e tt
+  goes-stops at f h End e = rw e tt
+
+  within-ends : (k at : ℕ) → length bytes - at ≤ k → Stops (codedAt bytes (decodedWithin k bytes at .stop))
+  within-ends zero at l = rw (past-end bytes at (omega arith)) tt
+  within-ends (suc k) at l = goes-stops at (decodedWithin k bytes) (λ next n. within-ends k next (omega arith)) (codedAt bytes at) refl
+
+  stop-stops : (at : ℕ) → Stops (codedAt bytes (decodedFrom bytes at .stop))
+  unfolding decodedFrom
+  stop-stops at = within-ends (length bytes - at) at (omega arith)
+
+  is-broken : (c : Coded) → Stops c → Something c → c ≡ Broken
+  is-broken Broken s h = refl
+
+  pub decodes : (at : ℕ) → Decodes bytes at
+  decodes at =
+      record {
+        whole = λ a next e. decoded-whole bytes at e;
+        none = λ s. decoded-stops bytes at refl s;
+        within = λ l. stop-within bytes at l;
+        ended = λ l e. past-end bytes (decodedFrom bytes at .stop) (omega arith);
+        broken = λ l n.
+            let w = stop-within bytes at l in
+            is-broken (codedAt bytes (decodedFrom bytes at .stop)) (stop-stops at) (something (decodedFrom bytes at .stop) (omega (arith, n)));
+      }

@@ -19,7 +19,8 @@ use Rattle.ring.specs.Begin.{begin}
 use Rattle.ring.specs.Write.{moved, planWrite}
 use Rattle.ring.specs.Read.{fetched, planRead}
 use Rattle.ring.specs.Act.{act}
-use Rattle.ring.specs.Change.{judgedChange, begunChange, movedChange, fetchedChange, changeOf, changed, StoresFit, MovedFits, WriteFits, ReadFits, ChangeFits}
+use Rattle.ring.specs.Pieces.{StoresFit}
+use Rattle.ring.specs.Change.{judgedChange, begunChange, movedChange, fetchedChange, changeOf, changed, ChangeFits}
 use Rattle.ring.specs.declared.state.Writer.{Writer}
 use Rattle.ring.specs.declared.state.Refusal.{Refusal}
 use Rattle.ring.specs.declared.state.Refusal.the-variants.{Depth, Nobody, Worn}
@@ -133,20 +134,20 @@ module _ (r : Ring) (s : InShape r) where
   moved-by = movedChange (planWrite r) (top r) (r .size) (r .places) (r .counts) (r .depth) (r .reader) (r .words) (r .used)
 
   -- the place of the record that is stored is one of the stack's
-  top-refused : (c : Change) (why : Refusal) → judged-by c (Refused why) .top < mostDepth
+  top-refused : (c : Change) (why : Refusal) → judged-by c (Refused why) .at < mostDepth
   top-refused c why = omega (arith, s)
 
-  pub change-top : (a : Action) → changeOf r a .top < mostDepth
+  pub change-top : (a : Action) → changeOf r a .at < mostDepth
   change-top (Begin v) =
-      by-cond (λ (w : Verdict). judged-by (begun-by v) w .top < mostDepth) (eqb (r .depth) mostDepth)
+      by-cond (λ (w : Verdict). judged-by (begun-by v) w .at < mostDepth) (eqb (r .depth) mostDepth)
       (λ e. top-refused (begun-by v) Depth)
       (λ e.
       let n = eqb-false (r .depth) mostDepth e in
-      by-cond (λ (w : Verdict). judged-by (begun-by v) w .top < mostDepth) (eqb (r .counts .begun) mostCount)
+      by-cond (λ (w : Verdict). judged-by (begun-by v) w .at < mostDepth) (eqb (r .counts .begun) mostCount)
       (λ e. top-refused (begun-by v) Worn)
       (λ e. omega (arith, s, n)))
   change-top Write =
-      by-cond (λ (w : Verdict). judged-by moved-by w .top < mostDepth) (eqb (r .depth) 0)
+      by-cond (λ (w : Verdict). judged-by moved-by w .at < mostDepth) (eqb (r .depth) 0)
       (λ e. top-refused moved-by Nobody)
       (λ e. omega (arith, s))
   change-top Read = omega (arith, s)

@@ -16,8 +16,7 @@ use Rattle.ring.specs.Shape.{inShape}
 use Rattle.ring.specs.Answers.{Outcome, gives}
 use Rattle.ring.specs.Write.{moved, planWrite, writeRule}
 use Rattle.ring.specs.Read.{fetched, planRead, readRule}
-use Rattle.ring.specs.Pieces.{answerAfter, countsAfter, placesAfter, depthAfter, recordAfter, storesAfter, readAnswer, readHanded, readPlaces, readPhase, readStores, stored, MoveFits, FetchFits}
-use Rattle.ring.specs.Change.{StoresFit}
+use Rattle.ring.specs.Pieces.{answerAfter, countsAfter, placesAfter, depthAfter, recordAfter, storesAfter, readAnswer, readHanded, readPlaces, readPhase, readStores, stored, StoresFit, MoveFits, FetchFits}
 use Rattle.ring.specs.declared.state.PageNo.{PageNo}
 use Rattle.ring.specs.declared.state.Size.{Size}
 use Rattle.ring.specs.declared.state.Places.{Places}

@@ -90,7 +90,7 @@ module _ (front old : List ℕ) (n : Numbers) (fits : length front + 3 ≤ lengt
 
 -- ---- a ring that is reached is in shape
 
-after-now : (r : Run) (actions : List Action) → after r actions .now ≡ ringAfter (r .now) actions
+pub after-now : (r : Run) (actions : List Action) → after r actions .now ≡ ringAfter (r .now) actions
 after-now r [] = refl
 after-now r (a ∷ rest) = after-now (next r a) rest
 

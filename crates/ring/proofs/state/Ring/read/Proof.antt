@@ -13,8 +13,7 @@ use Rattle.ring.specs.Limits.{mostPages}
 use Rattle.ring.specs.Refusals.{readVerdict}
 use Rattle.ring.specs.Shape.{inShape}
 use Rattle.ring.specs.Read.{planRead, readRule}
-use Rattle.ring.specs.Pieces.{FetchFits}
-use Rattle.ring.specs.Change.{StoresFit}
+use Rattle.ring.specs.Pieces.{StoresFit, FetchFits}
 use Rattle.ring.specs.declared.state.Ring.{Ring}
 use Rattle.ring.specs.declared.moves.Stores.the-variants.{Same}
 use Rattle.ring.proofs.shape.Laws.{InShape, in-shape, tested-inShape}

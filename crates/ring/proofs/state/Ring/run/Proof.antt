@@ -8,7 +8,8 @@ use lib.ListN.{length}
 use Rattle.ring.specs.Limits.{mostDepth}
 use Rattle.ring.specs.Actions.{codedAt}
 use Rattle.ring.specs.Replay.{answerNumbers, laidAt}
-use Rattle.ring.specs.Change.{changeOf, changed, StoresFit}
+use Rattle.ring.specs.Pieces.{StoresFit}
+use Rattle.ring.specs.Change.{changeOf, changed}
 use Rattle.ring.specs.declared.state.Action.{Action}
 use Rattle.ring.specs.declared.state.Ring.{Ring}
 use Rattle.ring.specs.declared.moves.Change.{Change}
@@ -79,7 +80,7 @@ turned c = c .before .before .before .before .before .before .before .before .be
 is-change : (c : tie.After-change-by Inv-loop μ-loop) → c .change-by .result ≡ changeOf (ring (turned c)) (action (turned c))
 is-change c = rw (turned c .top-at .ensures) at (c .change-by .ensures)
 
-top-within : (c : tie.After-change-by Inv-loop μ-loop) → c .change-by .result .top < mostDepth
+top-within : (c : tie.After-change-by Inv-loop μ-loop) → c .change-by .result .at < mostDepth
 top-within c = rw (is-change c) (change-top (ring (turned c)) (in-order (turned c)) (action (turned c)))
 
 stores-within : (c : tie.After-change-by Inv-loop μ-loop) → StoresFit (c .change-by .result .stores)

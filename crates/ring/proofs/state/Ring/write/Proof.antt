@@ -14,8 +14,7 @@ use Rattle.ring.specs.State.{top}
 use Rattle.ring.specs.Refusals.{writeVerdict}
 use Rattle.ring.specs.Shape.{inShape}
 use Rattle.ring.specs.Write.{planWrite, writeRule}
-use Rattle.ring.specs.Pieces.{MoveFits}
-use Rattle.ring.specs.Change.{StoresFit}
+use Rattle.ring.specs.Pieces.{StoresFit, MoveFits}
 use Rattle.ring.specs.declared.state.Ring.{Ring}
 use Rattle.ring.proofs.shape.Laws.{InShape, in-shape, tested-inShape}
 use Rattle.ring.proofs.write.Laws.{Allows, allows, top-fits, plan-fits}
