@@ -2,25 +2,27 @@
 use mathlib.Core.Path.{_≡_, refl, sym, ap, _∙_}
 use mathlib.Core.Bool.{true}
 use mathlib.Core.List.{List, [], _∷_, _++_, append-assoc, append-nil}
-use Prim.Native.Nat.{ℕ, _+_, _≤_}
+use Prim.Native.Nat.{ℕ, _+_, _*_, _≤_}
 use native.Mathlib.Omega.{arith}
-use borrow.Author.Tests.{le-leb, le-ltb, ne-eqb}
+use borrow.Author.Tests.{le-leb, le-ltb, eq-eqb, ne-eqb}
 use lib.ListN.{length, length-append, length-drop}
 use lib.Seq.{take-append-seam, drop-append-add, drop-drop}
 use Rattle.ring.specs.State.{sizeOf}
 use Rattle.ring.specs.Shape.{sizeFits}
-use Rattle.ring.specs.Actions.{coded, encoded}
-use Rattle.ring.specs.Replay.{over}
+use Rattle.ring.specs.Actions.{Decoded, decodedFrom, coded, encoded}
+use Rattle.ring.specs.Replay.{answerNumbers, over, ranRoom, roomFits}
 use Rattle.ring.specs.declared.state.Action.{Action}
 use Rattle.ring.specs.declared.state.Refusal.{Refusal}
 use Rattle.trace.specs.Header.{mostLength, markEnd, versionEnd, firstAction, plainByte, headerOf}
+use Rattle.trace.specs.Replays.{walkPlace, walkBytes, walkActions, walked, frontRing, replayedFrom, roomFrom}
 use Rattle.trace.specs.Encode.{headerBytes, put, kept, placeFor, headerPlace, actionPlace}
-use Rattle.trace.specs.Trace.{ValuesFit, traceOf, Written, writtenFrom, written, ReadBack, WrittenOut, RoundTrip}
+use Rattle.trace.specs.Trace.{ValuesFit, traceOf, Written, writtenFrom, written, ReadBack, WrittenOut, ReplayedBack, RoundTrip}
 use Rattle.trace.specs.declared.parts.Header.the-variants.{Ready}
 use Rattle.trace.specs.declared.parts.Put.{Put}
 use Rattle.trace.specs.declared.parts.Put.the-variants.{At, Refused}
 use Rattle.trace.proofs.Actions.{decoded-encoded}
 use Rattle.trace.proofs.encode.Laws.{small, placed, fronted}
+use Rattle.trace.proofs.walk.Laws.{room-enough}
 
 -- ---- reading
 
@@ -134,5 +136,40 @@ module _ (pages slots mode : ℕ) (actions : List Action) (out : List ℕ) where
       })
       (λ why e. not-both (refused-after (put (headerBytes pages slots mode) 0 out) out actions e) h)
 
+-- ---- the replay of what was written
+
+module _ (pages slots mode : ℕ) (actions : List Action) (room : List ℕ) (back : ReadBack pages slots mode actions) (fits : answerNumbers * length (encoded actions) ≤ length room) where
+  abbrev bytes : List ℕ
+  bytes = traceOf pages slots mode actions
+
+  trace-length : length bytes ≡ firstAction + length (encoded actions)
+  trace-length = length-append (headerBytes pages slots mode) (encoded actions)
+
+  place : walkPlace (length bytes) firstAction ≡ firstAction
+  place =
+      let n = trace-length in
+      rw (le-ltb (length bytes) firstAction (omega arith))
+
+  enough : roomFits (walkBytes bytes firstAction) room ≡ true
+  enough =
+      let n = trace-length in
+      room-enough bytes room firstAction firstAction (sym place) (omega arith)
+
+  replayed-back : ReplayedBack pages slots mode actions room
+  unfolding replayedFrom roomFrom
+  replayed-back =
+      let r = frontRing pages slots mode in
+      let all : walkActions bytes firstAction ≡ record { actions = actions; stop = length bytes } = ap (decodedFrom bytes) place ∙ back .then in
+      record {
+        replays = rw (back .front, enough) (ap (walked (length bytes) r) all ∙ rw (eq-eqb (length bytes) (length bytes) refl));
+        answers = rw (back .front, enough) (ap (λ (d : Decoded). ranRoom r d room) all);
+      }
+
 pub round-trip : RoundTrip
-round-trip = record { read = read-back; write = write-out; wrote = λ pages slots mode actions out. wrote-out pages slots mode actions out }
+round-trip =
+    record {
+      read = read-back;
+      write = write-out;
+      wrote = λ pages slots mode actions out. wrote-out pages slots mode actions out;
+      replayed = replayed-back;
+    }

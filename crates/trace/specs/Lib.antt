@@ -1,5 +1,5 @@
--- A trace as bytes: what its front says, how it is written and read back, and what its replay gives. Read in this order.
+-- A trace as bytes: what its front says, what its replay gives, how it is written, and the round trip. Read in this order.
 pub mod Header
+pub mod Replays
 pub mod Encode
 pub mod Trace
-pub mod Replays

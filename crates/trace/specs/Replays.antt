@@ -1,6 +1,7 @@
 -- The replay of a trace: its front, then the actions from a place on, one by one. Request E1: "9 an unknown or cut action, with the offset of that action's first
 -- byte. On 9 the state is that after the last whole action; on the others it is the plain ring. ... Replay equals the actions one by one".
 -- Assumes nothing.
+use mathlib.Core.Path.{_≡_}
 use mathlib.Core.Bool.{cond}
 use mathlib.Core.List.{List}
 use Prim.Native.Nat.{ℕ, _+_}
@@ -8,13 +9,14 @@ use lib.Dec.{eqb, ltb}
 use lib.ListN.{length, drop}
 use Rattle.ring.specs.State.{sizeOf}
 use Rattle.ring.specs.SetUp.{freshRing}
-use Rattle.ring.specs.Actions.{decoded}
-use Rattle.ring.specs.Replay.{replay, refusedReplay, ran, ranRoom, roomFits}
+use Rattle.ring.specs.Actions.{Decoded, codedAt, decodedFrom}
+use Rattle.ring.specs.Replay.{ringAfter, replay, refusedReplay, ranRoom, roomFits}
 use Rattle.ring.specs.declared.state.Refusal.the-variants as refusal
 use Rattle.ring.specs.declared.state.Answer.{Answer}
 use Rattle.ring.specs.declared.state.Answer.the-variants as answer
 use Rattle.ring.specs.declared.state.Replay.{Replay}
 use Rattle.ring.specs.declared.state.Ring.{Ring}
+use Rattle.ring.specs.declared.actions.Coded.the-variants.{Broken}
 use Rattle.trace.specs.Header.{headerOf}
 use Rattle.trace.specs.declared.parts.Header.{Header}
 use Rattle.trace.specs.declared.parts.Header.the-variants.{Ready, Refused}
@@ -23,17 +25,24 @@ use Rattle.trace.specs.declared.parts.Header.the-variants.{Ready, Refuse
 abbrev pub walkPlace : ℕ → ℕ → ℕ
 walkPlace len at = cond (ltb len at) len at
 
--- the bytes from there on
+-- the bytes from there on, the whole actions among them, and the offset where these stop
 abbrev pub walkBytes : List ℕ → ℕ → List ℕ
 walkBytes bytes at = drop (walkPlace (length bytes) at) bytes
 
--- refused with 9 where whole actions stop before the end
+abbrev pub walkActions : List ℕ → ℕ → Decoded
+walkActions bytes at = decodedFrom bytes (walkPlace (length bytes) at)
+
+-- refused with 9 where whole actions stop before the end: there is an unknown or cut action (`NineRight`)
 abbrev pub wholeTo : ℕ → ℕ → Answer
 wholeTo len stop = cond (eqb stop len) answer.Accepted (answer.Refused refusal.Action)
 
--- a run of the bytes from a place on, told as one of all of them: its stop is "the offset of that action's first byte"
-abbrev pub walked : ℕ → ℕ → Replay → Replay
-walked len from run = replay (run .ring) (wholeTo len (from + run .stop)) (run .made) (from + run .stop)
+-- the actions made one by one from ring r; the stop is "the offset of that action's first byte"
+abbrev pub walked : ℕ → Ring → Decoded → Replay
+walked len r d = replay (ringAfter r (d .actions)) (wholeTo len (d .stop)) (length (d .actions)) (d .stop)
+
+-- a run of the bytes from a place on, told as one of all of them
+abbrev pub toldFrom : ℕ → ℕ → Replay → Replay
+toldFrom len from run = replay (run .ring) (wholeTo len (from + run .stop)) (run .made) (from + run .stop)
 
 -- the ring of the front
 abbrev pub frontRing : ℕ → ℕ → ℕ → Ring
@@ -44,17 +53,22 @@ abbrev pub replayedBy : Header → List ℕ → ℕ → List ℕ → Replay
 replayedBy (Refused why) bytes at room = refusedReplay why
 replayedBy (Ready pages slots mode) bytes at room =
     cond (roomFits (walkBytes bytes at) room)
-    (walked (length bytes) (walkPlace (length bytes) at) (ran (frontRing pages slots mode) (decoded (walkBytes bytes at))))
+    (walked (length bytes) (frontRing pages slots mode) (walkActions bytes at))
     (refusedReplay refusal.Room)
 
--- what the room holds then: the answers at its front, and as before where nothing was begun
+-- what the room holds then: the answers at its front, and as before where the replay was refused before the first action
 abbrev pub roomBy : Header → List ℕ → ℕ → List ℕ → List ℕ
 roomBy (Refused why) bytes at room = room
 roomBy (Ready pages slots mode) bytes at room =
-    cond (roomFits (walkBytes bytes at) room) (ranRoom (frontRing pages slots mode) (decoded (walkBytes bytes at)) room) room
+    cond (roomFits (walkBytes bytes at) room) (ranRoom (frontRing pages slots mode) (walkActions bytes at) room) room
 
 unfoldable pub replayedFrom : List ℕ → ℕ → List ℕ → Replay
 replayedFrom bytes at room = replayedBy (headerOf bytes) bytes at room
 
 unfoldable pub roomFrom : List ℕ → ℕ → List ℕ → List ℕ
 roomFrom bytes at room = roomBy (headerOf bytes) bytes at room
+
+-- whatever the bytes are: where a replay is refused with 9, an unknown or cut action stands at its stop; where it is not refused, it made all actions to the end
+pub record NineRight (bytes : List ℕ) (r : Replay) : Type 0 where
+  pub nine : r .answer ≡ answer.Refused refusal.Action → codedAt bytes (r .stop) ≡ Broken
+  pub whole : r .answer ≡ answer.Accepted → r .stop ≡ length bytes

@@ -3,16 +3,19 @@
 use mathlib.Core.Path.{_≡_}
 use mathlib.Core.Bool.{true}
 use mathlib.Core.List.{List, [], _∷_, _++_}
-use Prim.Native.Nat.{ℕ, _≤_}
+use Prim.Native.Nat.{ℕ, _*_, _≤_}
 use lib.ListN.{length}
 use Rattle.ring.specs.Limits.{mostCount}
 use Rattle.ring.specs.State.{sizeOf}
 use Rattle.ring.specs.Shape.{sizeFits}
 use Rattle.ring.specs.Actions.{decodedFrom, encoded}
-use Rattle.ring.specs.Replay.{over}
+use Rattle.ring.specs.SetUp.{freshRing}
+use Rattle.ring.specs.Replay.{ringAfter, answersOf, answerNumbers, laid, over, replay}
+use Rattle.ring.specs.declared.state.Answer.the-variants.{Accepted}
 use Rattle.ring.specs.declared.state.Action.{Action}
 use Rattle.ring.specs.declared.state.Action.the-variants.{Begin, Write, Read}
 use Rattle.trace.specs.Header.{mostLength, firstAction, headerOf}
+use Rattle.trace.specs.Replays.{replayedFrom, roomFrom}
 use Rattle.trace.specs.Encode.{headerBytes, headerPlace, headerPut, actionPlace, actionPut}
 use Rattle.trace.specs.declared.parts.Header.the-variants.{Ready}
 use Rattle.trace.specs.declared.parts.Put.{Put}
@@ -62,6 +65,13 @@ pub record WrittenOut (pages slots mode : ℕ) (actions : List Action) (out : Li
   pub holds : written pages slots mode actions out .out ≡ over (traceOf pages slots mode actions) out
   pub reads : ReadBack pages slots mode actions
 
+-- the trace replayed, with room for its answers: the actions one by one on the fresh ring, all of them, and their answers at the front of the room
+pub record ReplayedBack (pages slots mode : ℕ) (actions : List Action) (room : List ℕ) : Type 0 where
+  pub replays :
+      replayedFrom (traceOf pages slots mode actions) firstAction room
+      ≡ replay (ringAfter (freshRing (sizeOf pages slots mode)) actions) Accepted (length actions) (length (traceOf pages slots mode actions))
+  pub answers : roomFrom (traceOf pages slots mode actions) firstAction room ≡ over (laid (answersOf (freshRing (sizeOf pages slots mode)) actions)) room
+
 pub record RoundTrip : Type 0 where
   -- every trace of an accepted set-up that is not too long is read back
   pub read :
@@ -83,3 +93,9 @@ pub record RoundTrip : Type 0 where
       ValuesFit actions →
       written pages slots mode actions out .place ≡ At end →
       WrittenOut pages slots mode actions out end
+  -- and a trace that is read back is replayed as its actions one by one
+  pub replayed :
+      (pages slots mode : ℕ) (actions : List Action) (room : List ℕ) →
+      ReadBack pages slots mode actions →
+      answerNumbers * length (encoded actions) ≤ length room →
+      ReplayedBack pages slots mode actions room

@@ -1,7 +1,7 @@
 // The actions of a trace from a place on, made one by one on the ring of its front.
 ghost use mathlib.Core.Path.{_≡_};
 ghost use Prim.Native.Nat.{_+_, _<_, _^_};
-ghost use Rattle.trace.specs.Replays.{walkPlace, walked, replayedFrom, roomFrom};
+ghost use Rattle.trace.specs.Replays.{walkPlace, toldFrom, replayedFrom, roomFrom};
 use crate::header::header;
 use crate::parts::Header;
 use ring::Answer;
@@ -18,10 +18,10 @@ fn walk_place(length: usize, at: usize) -> usize
     if length < at { length } else { at }
 }
 
-// A run of the bytes from `from` on, as one of all `length` bytes. Where it stops before their end, the action there is unknown or cut.
-fn walked(run: Replay, length: usize, from: usize) -> Replay
+// A run of the bytes from `from` on, told as one of all `length` bytes. Where it stops before their end, the action there is unknown or cut.
+fn told_from(run: Replay, length: usize, from: usize) -> Replay
     requires { ⌜ from + run .stop < 2 ^ 64 ⌝ }
-    ensures { λ r. ⌜ r ≡ walked length from run ⌝ }
+    ensures { λ r. ⌜ r ≡ toldFrom length from run ⌝ }
 {
     let ring = run.ring;
     let stop = from + run.stop;
@@ -38,7 +38,9 @@ fn walked(run: Replay, length: usize, from: usize) -> Replay
     }
 }
 
-pub fn replay_from(bytes: &[u8], at: usize, answers: &mut [u64]) -> Replay
+// The front, then the actions from `at` on, on the fresh ring that the front says. The room is tested here too, so that its refusal is not told as one
+// of an action.
+pub(crate) fn replay_from(bytes: &[u8], at: usize, answers: &mut [u64]) -> Replay
     ensures { λ r. ⌜ (r ≡ replayedFrom (now (bytes .entry)) at (now (answers .entry))) × (now (answers .exit) ≡ roomFrom (now (bytes .entry)) at (now (answers .entry))) ⌝ }
 {
     let front = header(bytes);
@@ -50,7 +52,7 @@ pub fn replay_from(bytes: &[u8], at: usize, answers: &mut [u64]) -> Replay
                 return refused_replay(Refusal::Room);
             }
             let run = Ring::replay(pages, slots, mode, &bytes[from..], answers);
-            walked(run, bytes.len(), from)
+            told_from(run, bytes.len(), from)
         }
     }
 }

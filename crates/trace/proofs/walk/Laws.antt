@@ -1,22 +1,29 @@
--- Where a walk begins is within the bytes; the set-up of a front that is not refused is one that a ring accepts; and the test of the room, as the code makes it.
+-- Where a walk begins is within the bytes; the set-up of a front that is not refused is one that a ring accepts; the test of the room, as the code makes it; and where a
+-- replay ends, `nine-right`: a refusal 9 stands at an unknown or cut action.
 -- Assumes nothing.
-use mathlib.Core.Path.{_≡_, sym, ap, _∙_, subst}
+use mathlib.Core.Path.{_≡_, refl, sym, ap, _∙_, subst}
 use mathlib.Core.Bool.{true, false, not}
 use mathlib.Core.List.{List}
 use Prim.Native.Nat.{ℕ, _+_, _-_, _/_, _≤_, _<_}
 use native.Mathlib.Omega.{arith}
-use borrow.Author.Tests.{lt-ltb, le-ltb, ltb-false}
-use lib.Dec.{ltb}
+use borrow.Author.Tests.{lt-ltb, le-ltb, ltb-false, eq-eqb, ne-eqb}
+use lib.Dec.{eqb, ltb}
 use lib.ListN.{length, take, drop, length-drop}
 use lib.Seq.{take-all}
 use Rattle.ring.specs.State.{sizeOf}
 use Rattle.ring.specs.Shape.{sizeFits}
-use Rattle.ring.specs.Actions.{byteAt, decoded}
-use Rattle.ring.specs.Replay.{answerNumbers, ran, ranRoom, roomFits, replayRule, roomRule}
-use Rattle.ring.proofs.Lists.{by-cond}
-use Rattle.ring.proofs.actions.Laws.{stop-within}
+use Rattle.ring.specs.Actions.{Decoded, byteAt, decoded, Decodes}
+use Rattle.ring.specs.Replay.{answerNumbers, refusedReplay, ran, ranRoom, roomFits, replayRule, roomRule}
+use Rattle.ring.specs.declared.state.Refusal.{Refusal}
+use Rattle.ring.specs.declared.state.Refusal.the-variants as refusal
+use Rattle.ring.specs.declared.state.Answer.the-variants as answer
+use Rattle.ring.specs.declared.state.Replay.{Replay}
+use Rattle.ring.specs.declared.state.Ring.{Ring}
+use Rattle.ring.proofs.Lists.{by-cond, by-eq}
+use Rattle.ring.proofs.actions.Laws.{stop-within, decodes}
+use Rattle.ring.proofs.actions.Shift.{shifted, decoded-drop}
 use Rattle.trace.specs.Header.{firstAction, tooLong, marked, versionFits, modeOf, setUp, pagesAt, slotsAt, modeAt, headerOf}
-use Rattle.trace.specs.Replays.{walkPlace, walkBytes, frontRing}
+use Rattle.trace.specs.Replays.{walkPlace, walkBytes, walkActions, wholeTo, walked, frontRing, replayedBy, replayedFrom, NineRight}
 use Rattle.trace.specs.declared.parts.Header.{Header}
 use Rattle.trace.specs.declared.parts.Header.the-variants.{Ready, Refused}
 
@@ -28,15 +35,28 @@ place-within len at =
 
 -- ---- the front
 
--- what it says is a set-up that a ring accepts, if it is not refused
-abbrev Accepts : Header → Type 0
+-- a refusal of the front is not that of an action
+abbrev OfFront : Refusal → Type 0
+OfFront refusal.Mark = Unit {0}
+OfFront refusal.Version = Unit {0}
+OfFront refusal.Sizes = Unit {0}
+OfFront refusal.Shape = ⊥
+OfFront refusal.Depth = ⊥
+OfFront refusal.Nobody = ⊥
+OfFront refusal.Worn = ⊥
+OfFront refusal.SetUp = ⊥
+OfFront refusal.Action = ⊥
+OfFront refusal.Room = ⊥
+
+-- what it says is a set-up that a ring accepts, or a refusal of its own
+abbrev pub Accepts : Header → Type 0
 Accepts (Ready pages slots mode) = sizeFits (sizeOf pages slots mode) ≡ true
-Accepts (Refused why) = Unit {0}
+Accepts (Refused why) = OfFront why
 
 set-up-accepts : (pages slots mode : ℕ) → Accepts (setUp pages slots mode)
 set-up-accepts pages slots mode = by-cond Accepts (sizeFits (sizeOf pages slots (modeOf mode))) (λ e. e) (λ e. tt)
 
-header-accepts : (bytes : List ℕ) → Accepts (headerOf bytes)
+pub header-accepts : (bytes : List ℕ) → Accepts (headerOf bytes)
 header-accepts bytes =
     by-cond Accepts (tooLong bytes) (λ e. tt) (λ e.
     by-cond Accepts (not (marked bytes)) (λ e. tt) (λ e.
@@ -63,13 +83,69 @@ module _ (bytes room : List ℕ) (at from : ℕ) (e : from ≡ walkPlace (length
   pub walk-part : take (length bytes - from) (drop from bytes) ≡ walkBytes bytes at
   walk-part = take-all (length bytes - from) (drop from bytes) (rw length-drop (omega arith)) ∙ ap (λ (k : ℕ). drop k bytes) e
 
-  -- the walk's stop, from the first of all bytes, is one of their places
+  -- its actions are those of all the bytes from there on
+  pub walk-same : walkActions bytes at ≡ shifted from (decoded (walkBytes bytes at))
+  walk-same =
+      decoded-drop bytes (walkPlace (length bytes) at) (place-within (length bytes) at)
+      ∙ ap (λ (k : ℕ). shifted k (decoded (walkBytes bytes at))) (sym e)
+
+  -- and they stop at one of their places
   pub walk-stop : from + decoded (walkBytes bytes at) .stop ≤ length bytes
   walk-stop =
-      let l = stop-within (walkBytes bytes at) 0 (omega arith) in
-      let k = walk-length in
-      let w : from ≤ length bytes = rw e (place-within (length bytes) at) in
-      omega arith
+      let l = stop-within bytes (walkPlace (length bytes) at) (place-within (length bytes) at) in
+      subst (λ (d : Decoded). d .stop ≤ length bytes) walk-same l
+
+-- ---- where a replay ends
+
+module _ (bytes : List ℕ) (at : ℕ) where
+  abbrev d : Decoded
+  d = walkActions bytes at
+
+  from-place : Decodes bytes (walkPlace (length bytes) at)
+  from-place = decodes bytes (walkPlace (length bytes) at)
+
+  refused-right : (why : Refusal) (r : Replay) → (why ≡ refusal.Action → ⊥) → r .answer ≡ answer.Refused why → NineRight bytes r
+  refused-right why r n e =
+      record {
+        nine = λ h. let same : why ≡ refusal.Action = cc in absurd (n same);
+        whole = λ h. let z : _≡_ {A = ℕ} 0 1 = cc in absurd (omega arith);
+      }
+
+  walked-right : (r : Ring) → NineRight bytes (walked (length bytes) r d)
+  walked-right r =
+      record {
+        nine = λ h.
+          by-eq (d .stop) (length bytes)
+          (λ e. let z : _≡_ {A = ℕ} 0 1 = accepted-or h (eq-eqb (d .stop) (length bytes) e) in absurd (omega arith))
+          (λ n. from-place .broken (place-within (length bytes) at) n);
+        whole = λ h.
+          by-eq (d .stop) (length bytes)
+          (λ e. e)
+          (λ n. let z : _≡_ {A = ℕ} 0 1 = refused-or h (ne-eqb (d .stop) (length bytes) n) in absurd (omega arith));
+      }
+    where
+      accepted-or : wholeTo (length bytes) (d .stop) ≡ answer.Refused refusal.Action → eqb (d .stop) (length bytes) ≡ true → _≡_ {A = ℕ} 0 1
+      accepted-or h e = let q : answer.Accepted ≡ answer.Refused refusal.Action = rw e at h in cc
+
+      refused-or : wholeTo (length bytes) (d .stop) ≡ answer.Accepted → eqb (d .stop) (length bytes) ≡ false → _≡_ {A = ℕ} 0 1
+      refused-or h e = let q : answer.Refused refusal.Action ≡ answer.Accepted = rw e at h in cc
+
+  front-not-action : (why : Refusal) → OfFront why → why ≡ refusal.Action → ⊥
+  front-not-action why h e = subst OfFront e h
+
+  room-not-action : refusal.Room ≡ refusal.Action → ⊥
+  room-not-action e = let z : _≡_ {A = ℕ} 0 1 = cc in omega arith
+
+  by-right : (room : List ℕ) (h : Header) → Accepts h → NineRight bytes (replayedBy h bytes at room)
+  by-right room (Refused why) ok = refused-right why (refusedReplay why) (front-not-action why ok) refl
+  by-right room (Ready pages slots mode) ok =
+      by-cond (NineRight bytes) (roomFits (walkBytes bytes at) room)
+      (λ e. walked-right (frontRing pages slots mode))
+      (λ e. refused-right refusal.Room (refusedReplay refusal.Room) room-not-action refl)
+
+  pub nine-right : (room : List ℕ) → NineRight bytes (replayedFrom bytes at room)
+  unfolding replayedFrom
+  nine-right room = by-right room (headerOf bytes) (header-accepts bytes)
 
 -- ---- a run whose set-up and room are as they should be
 

@@ -7,13 +7,14 @@ use native.Mathlib.Omega.{arith}
 use borrow.Author.Needs.{needs}
 use mathlib.Core.List.{List}
 use lib.ListN.{length, take, drop}
-use Rattle.ring.specs.Actions.{decoded}
+use Rattle.ring.specs.Actions.{Decoded, decoded}
 use Rattle.ring.specs.Replay.{ran, ranRoom, roomFits, replayRule, roomRule}
 use Rattle.ring.specs.declared.state.Replay.{Replay}
+use Rattle.ring.proofs.actions.Shift.{shifted}
 use Rattle.trace.specs.Header.{headerOf}
-use Rattle.trace.specs.Replays.{walkPlace, walkBytes, walked, frontRing, replayedFrom, roomFrom}
+use Rattle.trace.specs.Replays.{walkPlace, walkBytes, walkActions, walked, toldFrom, frontRing, replayedFrom, roomFrom}
 use Rattle.trace.specs.declared.parts.Header.the-variants.{Ready}
-use Rattle.trace.proofs.walk.Laws.{place-within, ready-fits, room-short, room-enough, walk-part, walk-stop, rule-runs, rule-fills}
+use Rattle.trace.proofs.walk.Laws.{place-within, ready-fits, room-short, room-enough, walk-part, walk-same, walk-stop, rule-runs, rule-fills}
 use Rattle.trace.proofs.walk.replay_from.Statement.{statement}
 use Rattle.trace.proofs.walk.replay_from.Tie as tie
 
@@ -92,11 +93,14 @@ fills c =
     ∙ ap (λ (l : List ℕ). roomRule (pages c) (slots c) (mode c) l (room c)) (part c)
     ∙ rule-fills (pages c) (slots c) (mode c) (left c) (room c) (ready-fits (bytes c) (says c)) (enough c)
 
+same : (c : tie.After-replay) → walkActions (bytes c) (place c) ≡ shifted (from c) (decoded (left c))
+same c = walk-same (bytes c) (room c) (place c) (from c) (begins c)
+
 bytes-small : (c : tie.After-shared-slice-known) → length (c .before .args .bytes .now) < 2 ^ 64
 bytes-small c = search needs
 
-walked-requires : tie.Need-walked-requires
-walked-requires c κs =
+told-from-requires : tie.Need-told-from-requires
+told-from-requires c κs =
     let r = c .before .before in
     let stop = ap (λ (k : Replay). k .stop) (runs r) in
     omega (arith, stop, walk-stop (bytes r) (room r) (place r) (from r) (begins r), bytes-small (c .before .before .before .before .before .before .before .before .before .before .before .before))
@@ -106,10 +110,11 @@ unfolding replayedFrom roomFrom
 returns-3 c =
     let r = c .before .before .before in
     let whole =
-    c .walked .ensures
-    ∙ ap (λ (k : Replay). walked (length (bytes r)) (from r) k) (runs r)
-    ∙ ap (λ (k : ℕ). walked (length (bytes r)) k (ran (frontRing (pages r) (slots r) (mode r)) (decoded (left r)))) (begins r) in
-    (rw (says r, enough r) whole, rw (says r, enough r) (fills r))
+    c .told-from .ensures
+    ∙ ap (λ (k : Replay). toldFrom (length (bytes r)) (from r) k) (runs r)
+    ∙ ap (λ (d : Decoded). walked (length (bytes r)) (frontRing (pages r) (slots r) (mode r)) d) (sym (same r)) in
+    let filled = fills r ∙ ap (λ (d : Decoded). ranRoom (frontRing (pages r) (slots r) (mode r)) d (room r)) (sym (same r)) in
+    (rw (says r, enough r) whole, rw (says r, enough r) filled)
 
 pub replay-from-spec : {M : Type 1} → statement M
 replay-from-spec =
@@ -127,7 +132,7 @@ replay-from-spec =
     (λ c. omega (arith, from-within (c .before)))
     (λ c. search needs)
     (λ c κs. search needs)
-    walked-requires
+    told-from-requires
     returns-2
     (λ c. search needs)
     returns-3)
