@@ -1,8 +1,9 @@
 // The bytes of a file.
 ghost use Rattle.io.specs.Counts.{Counts};
+use trace::parts::MOST_LENGTH;
 
 // How many bytes of a file are read: one more than a trace may have, so that a longer file is seen as such.
-pub const MOST: usize = 65537;
+pub const MOST: usize = MOST_LENGTH + 1;
 
 // What was read of a file.
 pub struct Loaded {

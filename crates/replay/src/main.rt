@@ -5,12 +5,15 @@ mod print; // a replay as text
 ghost use mathlib.Core.Path.{_≡_};
 ghost use lib.ListN.{length};
 use libc::STDERR_FILENO;
+use ring::replay::ANSWER_NUMBERS;
+use trace::parts::FIRST_ACTION;
+use trace::parts::MOST_LENGTH;
 
-// Linux passes no longer argument, so a name is never cut. A longer one would be an empty name, which no file has.
+// Linux passes no longer argument where its memory pages have 4 KiB, so a name is not cut there. A longer one is an empty name, which no file has.
 const NAME: usize = 131072;
 
-// Room for the answers of the longest trace: three numbers for each byte after its first 8.
-const ANSWERS: usize = 196584;
+// Room for the answers of the longest trace: one to each byte after its front.
+const ANSWERS: usize = ANSWER_NUMBERS * (MOST_LENGTH - FIRST_ACTION);
 
 fn name_room() -> [u8; NAME]
     ensures { λ r. ⌜ 131072 ≡ length r ⌝ }

@@ -8,9 +8,8 @@ use ring::Refusal;
 use ring::Replay;
 use ring::Ring;
 use ring::action_at;
-
-// Where a trace's actions start: its mark, its version and its set-up stand before them.
-const FIRST_ACTION: usize = 8;
+use ring::replay::ANSWER_NUMBERS;
+use trace::parts::FIRST_ACTION;
 
 // The code of an answer. It is far below this limit, which is for the cast alone.
 fn code_of(n: u64) -> u32 {
@@ -32,7 +31,7 @@ fn numbers_at(answers: &[u64], at: usize) -> Numbers
 fn answers_in(answers: &[u64], made: usize) -> usize
     ensures { λ r. ⌜ 3 * r ≤ length (now (answers .entry)) ⌝ }
 {
-    let most = answers.len() / 3;
+    let most = answers.len() / ANSWER_NUMBERS;
     if made < most { made } else { most }
 }
 
@@ -45,7 +44,7 @@ fn action_lines(bytes: &[u8], answers: &[u64], made: usize) {
         let Coded::Whole(action, next) = action_at(bytes, at) else {
             return;
         };
-        text::numbers_line(action, numbers_at(answers, 3 * i));
+        text::numbers_line(action, numbers_at(answers, ANSWER_NUMBERS * i));
         at = next;
         i = i + 1;
     }

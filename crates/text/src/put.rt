@@ -1,6 +1,6 @@
 // What a line is made of: text, numbers and the spaces between columns. A line is put together in room of its own and written whole at its end, so that
-// it is one write. Each function takes the line and a place in it, and answers the place after what it put. What does not fit is cut at the room: no line
-// here comes near it. What cannot be written is left out, since a program has nobody to tell.
+// it is one write. Each function takes the line and a place in it, and answers the place after what it put. What does not fit is cut at the room: the
+// longest line here, that of 17 words of ten digits, has 222 bytes. What cannot be written is left out, since a program has nobody to tell.
 ghost use Prim.Native.Nat.{_<_};
 use libc::STDOUT_FILENO;
 

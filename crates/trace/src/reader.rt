@@ -1,5 +1,5 @@
-// A trace that is read: a struct that holds its bytes, and thin functions over it. The borrow checker covers no function over such a struct, so each
-// is proved by hand; `replay` has plain parameters, and whoever calls it needs no walk.
+// A trace that is read: a struct that keeps hold of its bytes, and thin functions over it, each proved by hand. `replay` has plain parameters, and
+// whoever calls it needs no proof by hand.
 ghost use mathlib.Core.Path.{_≡_};
 ghost use Rattle.ring.specs.Actions.{codedAt};
 ghost use Rattle.trace.specs.Header.{firstAction};
@@ -44,7 +44,7 @@ impl<'a> TraceReader<'a> {
         }
     }
 
-    // The actions from the place on, made one by one; their answers are in the room that is lent.
+    // The front, then the actions from the place on, made one by one on the fresh ring that the front says; their answers are in the room that is lent.
     pub fn replay(self, answers: &mut [u64]) -> Replay
         ensures { λ r. ⌜ (r ≡ replayedFrom (now (self .entry .bytes)) (self .entry .at) (now (answers .entry))) × (now (answers .exit) ≡ roomFrom (now (self .entry .bytes)) (self .entry .at) (now (answers .entry))) ⌝ }
     {
@@ -52,8 +52,9 @@ impl<'a> TraceReader<'a> {
     }
 }
 
-// A whole trace: its front, and the actions from the first one on, by a reader that keeps hold of the bytes. `answers` wants a place for an answer
-// to each byte past the front; see `Ring::replay`.
+// A whole trace, by a reader that keeps hold of its bytes: its front, and the actions from the first one on. Refused with MARK, VERSION or SIZES for
+// its front, then with ROOM where `answers` has no place for an answer to each byte after it, with the plain ring each; and with ACTION at an action
+// that is unknown or cut, whose offset is `stop`, with the ring after the last whole one.
 pub fn replay(bytes: &[u8], answers: &mut [u64]) -> Replay
     ensures { λ r. ⌜ (r ≡ replayedFrom (now (bytes .entry)) firstAction (now (answers .entry))) × (now (answers .exit) ≡ roomFrom (now (bytes .entry)) firstAction (now (answers .entry))) ⌝ }
 {
