@@ -115,13 +115,13 @@ module _ (bytes : List ℕ) (at : ℕ) where
   walked-right r =
       record {
         nine = λ h.
-          by-eq (d .stop) (length bytes)
-          (λ e. let z : _≡_ {A = ℕ} 0 1 = accepted-or h (eq-eqb (d .stop) (length bytes) e) in absurd (omega arith))
-          (λ n. from-place .broken (place-within (length bytes) at) n);
+            by-eq (d .stop) (length bytes)
+            (λ e. let z : _≡_ {A = ℕ} 0 1 = accepted-or h (eq-eqb (d .stop) (length bytes) e) in absurd (omega arith))
+            (λ n. from-place .broken (place-within (length bytes) at) n);
         whole = λ h.
-          by-eq (d .stop) (length bytes)
-          (λ e. e)
-          (λ n. let z : _≡_ {A = ℕ} 0 1 = refused-or h (ne-eqb (d .stop) (length bytes) n) in absurd (omega arith));
+            by-eq (d .stop) (length bytes)
+            (λ e. e)
+            (λ n. let z : _≡_ {A = ℕ} 0 1 = refused-or h (ne-eqb (d .stop) (length bytes) n) in absurd (omega arith));
       }
     where
       accepted-or : wholeTo (length bytes) (d .stop) ≡ answer.Refused refusal.Action → eqb (d .stop) (length bytes) ≡ true → _≡_ {A = ℕ} 0 1
