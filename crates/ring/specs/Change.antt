@@ -7,13 +7,13 @@ use mathlib.Core.List.{List}
 use Prim.Native.Nat.{ℕ, _+_, _-_, _≤_}
 use lib.ListN.{set}
 use Rattle.ring.specs.Limits.{mostPages, mostSlots, mostDepth, mostCount}
-use Rattle.ring.specs.State.{writer, countsBegun, countsHanded, withStack, withCounts, withPlaces, withDepth, withReader, withWords, withUsed, withNumbers, withValues, top}
+use Rattle.ring.specs.State.{writer, countsBegun, countsHanded, withStack, withCounts, withPlaces, withDepth, withReader, top}
 use Rattle.ring.specs.Codes.{numbersOf}
 use Rattle.ring.specs.Refusals.{beginVerdict, writeVerdict}
 use Rattle.ring.specs.Shape.{writerFits, readerFits}
 use Rattle.ring.specs.Write.{planPhase}
 use Rattle.ring.specs.Read.{planReader}
-use Rattle.ring.specs.Pieces.{answerAfter, countsAfter, placesAfter, depthAfter, recordAfter, storesAfter, readAnswer, readHanded, readPlaces, readPhase, readStores, wordsStored, usedStored, numbersStored, valuesStored, MoveFits, FetchFits, EventFits}
+use Rattle.ring.specs.Pieces.{answerAfter, countsAfter, placesAfter, depthAfter, recordAfter, storesAfter, readAnswer, readHanded, readPlaces, readPhase, readStores, stored, MoveFits, FetchFits, EventFits}
 use Rattle.ring.specs.declared.state.Size.{Size}
 use Rattle.ring.specs.declared.state.Places.{Places}
 use Rattle.ring.specs.declared.state.Counts.{Counts}
@@ -103,13 +103,7 @@ changeOf r a =
 abbrev pub changed : Change → Ring → Ring
 changed c r =
     withStack (set (r .stack) (c .at) (c .writer))
-    (withCounts (c .counts)
-    (withPlaces (c .places)
-    (withDepth (c .depth)
-    (withReader (c .reader)
-    (withWords (wordsStored (c .stores) (r .words))
-    (withUsed (usedStored (c .stores) (r .used))
-    (withNumbers (numbersStored (c .stores) (r .numbers)) (withValues (valuesStored (c .stores) (r .values)) r))))))))
+    (withCounts (c .counts) (withPlaces (c .places) (withDepth (c .depth) (withReader (c .reader) (stored (c .stores) r)))))
 
 -- ---- what the code asks of the pieces: a ring in shape has it (`change-fits`)
 
