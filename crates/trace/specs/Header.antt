@@ -93,12 +93,13 @@ abbrev pub setUpIn : List ℕ → Header
 setUpIn bytes = setUp (byteAt bytes pagesAt) (byteAt bytes slotsAt) (byteAt bytes modeAt)
 
 -- "Refusals, in this order: 6 longer than that, or mark wrong or cut; 7 version other or cut; 8 set-up cut, or out of range"
-abbrev pub headerOf : List ℕ → Header
-headerOf bytes =
-    first
-    ((tooLong bytes, Refused Mark)
+abbrev pub headerRows : List ℕ → List (Bool × Header)
+headerRows bytes =
+    (tooLong bytes, Refused Mark)
     ∷ (not (marked bytes), Refused Mark)
     ∷ (not (versionFits bytes), Refused Version)
     ∷ (ltb (length bytes) firstAction, Refused Sizes)
-    ∷ [])
-    (setUpIn bytes)
+    ∷ []
+
+abbrev pub headerOf : List ℕ → Header
+headerOf bytes = first (headerRows bytes) (setUpIn bytes)

@@ -2,14 +2,15 @@
 -- replay ends, `nine-right`: a refusal 9 stands at an unknown or cut action.
 -- Assumes nothing.
 use mathlib.Core.Path.{_≡_, refl, sym, ap, _∙_, subst}
-use mathlib.Core.Bool.{true, false, not}
-use mathlib.Core.List.{List}
+use mathlib.Core.Bool.{Bool, true, false, not}
+use mathlib.Core.List.{List, [], _∷_}
 use Prim.Native.Nat.{ℕ, _+_, _-_, _/_, _≤_, _<_}
 use native.Mathlib.Omega.{arith}
 use borrow.Author.Tests.{lt-ltb, le-ltb, ltb-false, eq-eqb, ne-eqb}
 use lib.Dec.{eqb, ltb}
 use lib.ListN.{length, take, drop, length-drop}
 use lib.Seq.{take-all}
+use Rattle.ring.specs.Lists.{first}
 use Rattle.ring.specs.State.{sizeOf}
 use Rattle.ring.specs.Shape.{sizeFits}
 use Rattle.ring.specs.Actions.{Decoded, byteAt, decoded, Decodes}
@@ -22,7 +23,7 @@ use Rattle.ring.specs.declared.state.Ring.{Ring}
 use Rattle.ring.proofs.Lists.{by-cond, by-eq}
 use Rattle.ring.proofs.actions.Laws.{stop-within, decodes}
 use Rattle.ring.proofs.actions.Shift.{shifted, decoded-drop}
-use Rattle.trace.specs.Header.{firstAction, tooLong, marked, versionFits, modeOf, setUp, pagesAt, slotsAt, modeAt, headerOf}
+use Rattle.trace.specs.Header.{modeOf, setUp, pagesAt, slotsAt, modeAt, setUpIn, headerRows, headerOf}
 use Rattle.trace.specs.Replays.{walkPlace, walkBytes, walkActions, wholeTo, walked, frontRing, replayedBy, replayedFrom, NineRight}
 use Rattle.trace.specs.declared.parts.Header.{Header}
 use Rattle.trace.specs.declared.parts.Header.the-variants.{Ready, Refused}
@@ -56,13 +57,19 @@ Accepts (Refused why) = OfFront why
 set-up-accepts : (pages slots mode : ℕ) → Accepts (setUp pages slots mode)
 set-up-accepts pages slots mode = by-cond Accepts (sizeFits (sizeOf pages slots (modeOf mode))) (λ e. e) (λ e. tt)
 
+-- what holds beside each test of a list, and otherwise, holds of the first that passes
+abbrev Each : (Header → Type 0) → List (Bool × Header) → Type 0
+Each P [] = Unit {0}
+Each P (row ∷ rows) = P (row .1) × Each P rows
+
+first-holds : (P : Header → Type 0) (rows : List (Bool × Header)) (otherwise : Header) → Each P rows → P otherwise → P (first rows otherwise)
+first-holds P [] otherwise hs h = h
+first-holds P (row ∷ rows) otherwise hs h = by-cond P (row .0) (λ e. hs .0) (λ e. first-holds P rows otherwise (hs .1) h)
+
 pub header-accepts : (bytes : List ℕ) → Accepts (headerOf bytes)
 header-accepts bytes =
-    by-cond Accepts (tooLong bytes) (λ e. tt) (λ e.
-    by-cond Accepts (not (marked bytes)) (λ e. tt) (λ e.
-    by-cond Accepts (not (versionFits bytes)) (λ e. tt) (λ e.
-    by-cond Accepts (ltb (length bytes) firstAction) (λ e. tt) (λ e.
-    set-up-accepts (byteAt bytes pagesAt) (byteAt bytes slotsAt) (byteAt bytes modeAt)))))
+    first-holds Accepts (headerRows bytes) (setUpIn bytes) (tt, (tt, (tt, (tt, tt))))
+    (set-up-accepts (byteAt bytes pagesAt) (byteAt bytes slotsAt) (byteAt bytes modeAt))
 
 pub ready-fits : (bytes : List ℕ) {pages slots mode : ℕ} → headerOf bytes ≡ Ready pages slots mode → sizeFits (sizeOf pages slots mode) ≡ true
 ready-fits bytes e = subst Accepts e (header-accepts bytes)
