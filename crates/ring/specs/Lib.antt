@@ -17,6 +17,8 @@ pub mod Act
 pub mod Actions
 pub mod Change
 pub mod Replay
+pub mod Drain
+pub mod Turn
 pub mod Remember
 pub mod History
 pub mod Demand

@@ -17,6 +17,8 @@ pub mod act; // any of the three
 pub mod actions; // actions as bytes
 pub mod change; // what an action of any kind stores
 pub mod replay; // actions in bytes, made one by one in place
+pub mod turn; // what some Reads in a row store
+pub mod drain; // Reads in a row, their Events in a buffer that is lent
 
 // what a caller names
 pub use actions::Coded;
@@ -25,6 +27,8 @@ pub use codes::Numbers;
 pub use codes::answer_numbers;
 pub use state::Action;
 pub use state::Answer;
+pub use state::Filled;
+pub use state::Last;
 pub use state::PageNo;
 pub use state::ReadingNo;
 pub use state::Receipt;

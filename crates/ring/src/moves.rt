@@ -84,3 +84,18 @@ pub struct Change {
     pub reader: Reader,
     pub stores: Stores,
 }
+
+// What the Reads of one turn of a drain leave: those of some Events that stand one after the other, or one Read of another kind.
+pub struct Turn {
+    // how many Events, and the place of the first one's slot
+    pub count: usize,
+    pub from: usize,
+    // the last one's answer
+    pub answer: Answer,
+    // how many Reads may still be made before the next Event
+    pub left: u32,
+    pub handed: u64,
+    pub places: Places,
+    pub reader: Reader,
+    pub stores: Stores,
+}

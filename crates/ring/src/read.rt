@@ -32,7 +32,7 @@ use crate::words::find_header;
 use crate::words::links;
 
 // How far the reader page may be read. While commit is on it, a slot below used may be reserved and not yet committed.
-fn read_limit(places: Places, used: &[u32; 17]) -> u32
+pub(crate) fn read_limit(places: Places, used: &[u32; 17]) -> u32
     requires { ⌜ places .reader .0 ≤ mostPages ⌝ }
     ensures { λ r. ⌜ r ≡ readLimit places (now (used .entry)) ⌝ }
 {

@@ -176,6 +176,19 @@ pub struct Replay {
     pub stop: usize,
 }
 
+// The last answer of a drain; none where no Read was made.
+pub enum Last {
+    None,
+    Told(Answer),
+}
+
+// What a drain gives back beside the elements that it stored: they are the first `count` of the buffer that was lent.
+pub struct Filled {
+    pub ring: Ring,
+    pub last: Last,
+    pub count: usize,
+}
+
 // The limits, the sizes of the plain ring, the modes and the flags of a link word.
 impl Ring {
     pub const LEAST_PAGES: u32 = 2;

@@ -1,0 +1,2 @@
+-- Eight Reads in a row never end a drain of a ring that is reached from a fresh one: single Reads bring an Event, Empty or Busy within six.
+-- Assumes nothing.

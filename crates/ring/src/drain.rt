@@ -1,0 +1,142 @@
+// Drain: Reads made one after the other, and their Events laid in a buffer that is lent. The ring stays in one place, and its shape is tested once: a Read
+// can undo it only by the counts, and the two that an Event moves apart are compared at each turn.
+ghost use mathlib.Core.Path.{_≡_};
+ghost use mathlib.Core.Bool.{true};
+ghost use Prim.Native.Nat.{_+_, _≤_};
+ghost use lib.Dec.{leb};
+ghost use lib.ListN.{length};
+ghost use lib.Seq.{sets};
+ghost use Rattle.ring.specs.Limits.{slotRoom, mostCount};
+ghost use Rattle.ring.specs.State.{reading};
+ghost use Rattle.ring.specs.Shape.{inShape};
+ghost use Rattle.ring.specs.Drain.{eventNumber, mostQuiet, drained, drainRule, filled, laidOut};
+ghost use Rattle.ring.specs.Turn.{eventsFrom, lastAfter};
+ghost use Rattle.ring.specs.declared.state.Last.the-variants.{None};
+use crate::change::store_used;
+use crate::change::store_words;
+use crate::shape::counts_fit;
+use crate::shape::layout_fits;
+use crate::state::Answer;
+use crate::state::Counts;
+use crate::state::Filled;
+use crate::state::Last;
+use crate::state::Refusal;
+use crate::state::Ring;
+use crate::turn::MOST_QUIET;
+use crate::turn::turn_by;
+
+// An Event as it is stored.
+fn event_number(number: u32, value: u32) -> u64
+    ensures { λ r. ⌜ r ≡ eventNumber (reading number) value ⌝ }
+{
+    (number as u64) * 4294967296 + (value as u64)
+}
+
+// The readings of some slots, from slot `from` on, laid in the room from `at` on.
+fn lay_events<'a>(
+    room: &mut [u64],
+    at: usize,
+    from: usize,
+    count: usize,
+    numbers: &'a [u32; 272],
+    values: &'a [u32; 272],
+)
+    requires { ⌜ (at + count ≤ length (now room)) × (from + count ≤ slotRoom) ⌝ }
+    ensures { λ _. ⌜ now (room .exit) ≡ sets (now (room .entry)) at (eventsFrom (now (numbers .entry)) (now (values .entry)) from count) ⌝ }
+{
+    let mut i: usize = 0;
+    while i < count {
+        let slot = from + i;
+        room[at + i] = event_number(numbers[slot], values[slot]);
+        i = i + 1;
+    }
+}
+
+// Whether the counts still agree: the one test of shape that an Event can undo.
+fn agrees(counts: Counts) -> bool
+    requires { ⌜ (counts .handed ≤ mostCount + 1) × (counts .overwritten ≤ mostCount) ⌝ }
+    ensures { λ r. ⌜ r ≡ leb (counts .handed + counts .overwritten) (counts .committed) ⌝ }
+{
+    counts.handed + counts.overwritten <= counts.committed
+}
+
+// The last answer. Where a Read is still due, the ring is out of shape, and it is refused.
+fn last_after(due: bool, last: Last) -> Last
+    ensures { λ r. ⌜ r ≡ lastAfter due last ⌝ }
+{
+    if due {
+        Last::Told(Answer::Refused(Refusal::Shape))
+    } else {
+        last
+    }
+}
+
+impl Ring {
+    // The Reads of a ring in shape.
+    fn drain_shaped(mut self, room: &mut [u64]) -> Filled
+        requires { ⌜ inShape self ≡ true ⌝ }
+        ensures { λ r. ⌜ (r ≡ filled (drained mostQuiet (length (now (room .entry))) self None)) × (now (room .exit) ≡ laidOut (drained mostQuiet (length (now (room .entry))) self None) (now (room .entry))) ⌝ }
+    {
+        let most = room.len();
+        let mut at: usize = 0;
+        let mut left: u32 = MOST_QUIET;
+        let mut last = Last::None;
+        while (at < most) & (0 < left) & agrees(self.counts) {
+            let t = turn_by(
+                left,
+                most - at,
+                self.size,
+                self.places,
+                self.counts,
+                self.reader,
+                &self.words,
+                &self.used,
+                &self.numbers,
+                &self.values,
+            );
+            lay_events(room, at, t.from, t.count, &self.numbers, &self.values);
+            let handed = t.handed;
+            let places = t.places;
+            let reader = t.reader;
+            let stores = t.stores;
+            let answer = t.answer;
+            self.counts.handed = handed;
+            self.places = places;
+            self.reader = reader;
+            store_words(&mut self.words, stores);
+            store_used(&mut self.used, stores);
+            at = at + t.count;
+            left = t.left;
+            last = Last::Told(answer);
+        }
+        let due = (at < most) & (0 < left);
+        let told = last_after(due, last);
+        Filled {
+            ring: self,
+            last: told,
+            count: at,
+        }
+    }
+
+    // Reads, until the room is full, an answer is Empty, Busy or a refusal, or MOST_QUIET of them in a row have brought no Event. The Events are the first
+    // `count` elements of the room, each as number * 2^32 + value; the rest keeps its contents. Refused with SHAPE out of shape, whatever the room.
+    pub fn drain_into(self, room: &mut [u64]) -> Filled
+        ensures { λ r. ⌜ (r ≡ filled (drainRule self (length (now (room .entry))))) × (now (room .exit) ≡ laidOut (drainRule self (length (now (room .entry)))) (now (room .entry))) ⌝ }
+    {
+        let size = self.size;
+        let places = self.places;
+        let reader = self.reader;
+        let stack = self.stack;
+        let depth = self.depth;
+        let fit = counts_fit(self.counts)
+            & layout_fits(size, places, reader, stack, depth, &self.words, &self.used);
+        if !fit {
+            return Filled {
+                ring: self,
+                last: Last::Told(Answer::Refused(Refusal::Shape)),
+                count: 0,
+            };
+        }
+        self.drain_shaped(room)
+    }
+}

@@ -1,0 +1,112 @@
+// A turn of a drain, decided on the pieces of a ring in shape: Events that stand one after the other on the reader page are made together, and a Read of
+// another kind by itself.
+ghost use mathlib.Core.Path.{_≡_};
+ghost use Prim.Native.Nat.{_+_, _-_, _<_, _≤_};
+ghost use lib.ListN.{length};
+ghost use Rattle.ring.specs.Limits.{mostSlots};
+ghost use Rattle.ring.specs.Turn.{smaller, ready, placesBefore, leftAfter, turnBy, ReadyFits, TurnFits};
+use crate::cells::slot_index;
+use crate::moves::Fetch;
+use crate::moves::Turn;
+use crate::pieces::read_answer;
+use crate::pieces::read_phase;
+use crate::pieces::read_places;
+use crate::pieces::read_stores;
+use crate::read::plan_reader;
+use crate::read::read_limit;
+use crate::state::Counts;
+use crate::state::Places;
+use crate::state::Reader;
+use crate::state::Size;
+
+// So many Reads in a row may bring neither an Event nor an end.
+pub const MOST_QUIET: u32 = 8;
+
+fn smaller(a: usize, b: usize) -> usize
+    ensures { λ r. ⌜ r ≡ smaller a b ⌝ }
+{
+    if a < b { a } else { b }
+}
+
+// How many Events come one after the other: as many as stand on the reader page, as there is room for, and as the counts allow. One more than
+// `committed` can hold is allowed, and it is the last: it leaves the ring out of shape.
+fn events_ready(
+    f: Fetch,
+    places: Places,
+    counts: Counts,
+    used: &[u32; 17],
+    room: usize,
+) -> usize
+    requires { ⌜ ReadyFits f places counts (now used) ⌝ }
+    ensures { λ r. ⌜ r ≡ ready f places counts (now (used .entry)) room ⌝ }
+{
+    match f {
+        Fetch::Event => {
+            let here = read_limit(places, used) - places.position;
+            let allowed = counts.committed + 1 - (counts.handed + counts.overwritten);
+            smaller(smaller(here as usize, room), allowed as usize)
+        }
+        _ => 0,
+    }
+}
+
+// The places before the last of some Reads, of which all but the last are Events.
+fn places_before(places: Places, count: usize) -> Places
+    requires { ⌜ (places .position ≤ mostSlots) × (count ≤ mostSlots) ⌝ }
+    ensures { λ r. ⌜ r ≡ placesBefore places count ⌝ }
+{
+    let mut next = places;
+    if 0 < count {
+        next.position = places.position + (count - 1) as u32;
+    }
+    next
+}
+
+// How many Reads may still be made: all of them again after an Event, and none after an end.
+fn left_after(f: Fetch, left: u32) -> u32
+    requires { ⌜ 0 < left ⌝ }
+    ensures { λ r. ⌜ r ≡ leftAfter f left ⌝ }
+{
+    match f {
+        Fetch::Event => MOST_QUIET,
+        Fetch::Empty | Fetch::Busy => 0,
+        _ => left - 1,
+    }
+}
+
+pub(crate) fn turn_by<'a>(
+    left: u32,
+    room: usize,
+    size: Size,
+    places: Places,
+    counts: Counts,
+    reader: Reader,
+    words: &'a [u32; 17],
+    used: &'a [u32; 17],
+    numbers: &'a [u32; 272],
+    values: &'a [u32; 272],
+) -> Turn
+    requires { ⌜ TurnFits left room size places counts reader (now words) (now used) ⌝ }
+    ensures { λ r. ⌜ r ≡ turnBy left room size places counts reader (now (words .entry)) (now (used .entry)) (now (numbers .entry)) (now (values .entry)) ⌝ }
+{
+    let f = plan_reader(reader, size, places, words, used);
+    let count = events_ready(f, places, counts, used, room);
+    let from = slot_index(size, places.reader, places.position);
+    let last = places_before(places, count);
+    let answer = read_answer(f, size, last, numbers, values);
+    let left_then = left_after(f, left);
+    let handed = counts.handed + (count as u64);
+    let places_then = read_places(f, last);
+    let reader_then = read_phase(f, reader);
+    let stores = read_stores(f, places.reader, words);
+    Turn {
+        count,
+        from,
+        answer,
+        left: left_then,
+        handed,
+        places: places_then,
+        reader: reader_then,
+        stores,
+    }
+}
