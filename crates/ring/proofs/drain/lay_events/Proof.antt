@@ -1,74 +1,61 @@
+-- `drain::lay_events` stores the readings of the slots one after the other: after i turns the first i of them stand in the room. Assumes nothing.
+use mathlib.Core.Path.{_≡_, refl, sym, ap, _∙_}
+use mathlib.Core.List.{List}
+use Prim.Native.Nat.{ℕ, _+_, _*_, _^_, _-_, _≤_, _<_}
+use native.Mathlib.Omega.{arith}
+use native.Mathlib.Numerals.{add-one}
+use borrow.Author.Needs.{needs}
+use lib.ListN.{length}
+use lib.Seq.{sets, length-sets}
+use Rattle.ring.specs.Lists.{tabulate}
+use Rattle.ring.specs.Turn.{eventAt, eventsFrom}
+use Rattle.ring.proofs.Lists.{length-tabulate}
+use Rattle.ring.proofs.drain.Laws.{sets-more}
 use Rattle.ring.proofs.drain.lay_events.Statement.{statement}
 use Rattle.ring.proofs.drain.lay_events.Tie as tie
-use Rattle.ring.proofs.drain.lay_events.Reads as reads
-use Rattle.ring.proofs.drain.lay_events.Lts as lts
-use Rattle.ring.proofs.drain.event_number.Reads as event-number-reads
 
 abbrev Inv-loop : tie.InvT-loop
-Inv-loop room₀ at from count numbers values i₀ room i = ?
+Inv-loop room₀ at from count numbers values i₀ room i = (i ≤ count) × (room ≡ sets room₀ at (eventsFrom numbers values from i))
 
 abbrev μ-loop : tie.MeasureT-loop
-μ-loop room₀ at from count numbers values i₀ room i = ?
+μ-loop room₀ at from count numbers values i₀ room i = count - i
 
--- src/drain.rt:48:5
-loop-holds : tie.Need-loop-holds Inv-loop μ-loop
-loop-holds c = ?
+-- the room stays as long as it was
+same-size : (c : tie.In-loop Inv-loop μ-loop) → length (c .before .loop .room) ≡ length (c .before .before .before .args .room .now)
+same-size c =
+    let start = c .before .before .before .args in
+    ap length (c .before .loop .inv .1) ∙ length-sets (start .room .now) (start .at) (eventsFrom (start .numbers .now) (start .values .now) (start .from) (c .before .loop .i))
 
--- src/drain.rt:49:20
-add-slot : tie.Need-add-slot Inv-loop μ-loop
-add-slot c = ?
+room-small : (c : tie.After-slice-known Inv-loop μ-loop) → length (c .before .args .room .now) * 8 < 2 ^ 64
+room-small c = search needs
 
--- src/drain.rt:50:37
-mul-event-number : tie.Need-mul-event-number Inv-loop μ-loop
-mul-event-number c = ?
-
--- src/drain.rt:50:37
-element-copy-out-event-number : tie.Need-element-copy-out-event-number Inv-loop μ-loop
-element-copy-out-event-number c = ?
-
--- src/drain.rt:50:52
-mul-event-number-2 : tie.Need-mul-event-number-2 Inv-loop μ-loop
-mul-event-number-2 c = ?
-
--- src/drain.rt:50:52
-element-copy-out-event-number-2 : tie.Need-element-copy-out-event-number-2 Inv-loop μ-loop
-element-copy-out-event-number-2 c = ?
-
--- src/drain.rt:50:24
-event-number-requires : tie.Need-event-number-requires Inv-loop μ-loop
-event-number-requires c κs = ?
-
--- src/drain.rt:50:14
-add-room : tie.Need-add-room Inv-loop μ-loop
-add-room c = ?
-
--- src/drain.rt:50:9
-mul-room : tie.Need-mul-room Inv-loop μ-loop
-mul-room c = ?
-
--- src/drain.rt:50:9
 slice-write-room : tie.Need-slice-write-room Inv-loop μ-loop
-slice-write-room c = ?
+slice-write-room c = omega (arith, same-size (c .before .before .before))
 
--- src/drain.rt:51:13
-add-i : tie.Need-add-i Inv-loop μ-loop
-add-i c = ?
+mul-room : tie.Need-mul-room Inv-loop μ-loop
+mul-room c = omega (arith, room-small (c .before .before .before .before .before))
 
--- src/drain.rt:48:5
-loop-less : tie.Need-loop-less Inv-loop μ-loop
-loop-less c = ?
-
--- src/drain.rt:48:5
 loop-again : tie.Need-loop-again Inv-loop μ-loop
-loop-again c = ?
+loop-again c =
+    let start = c .before .before .before .before .before .before .args in
+    let l = c .before .before .before .before .loop in
+    let f = eventAt (start .numbers .now) (start .values .now) (start .from) in
+    (
+      omega arith,
+      rw (l .inv .1, c .event-number .ensures, add-one)
+      (sym (sets-more (tabulate (l .i) f) (start .room .now) (start .at) (f (l .i)) (l .i) (sym (length-tabulate f (l .i))))),
+    )
 
--- src/drain.rt:36:1
 same-length : tie.Need-same-length Inv-loop μ-loop
-same-length c = ?
+same-length c =
+    let start = c .before .before .before .args in
+    ap length (c .before .loop .inv .1) ∙ length-sets (start .room .now) (start .at) (eventsFrom (start .numbers .now) (start .values .now) (start .from) (c .before .loop .i))
 
--- src/drain.rt:36:1
 returns : tie.Need-returns Inv-loop μ-loop
-returns c = ?
+returns c =
+    let start = c .before .before .before .args in
+    let all : c .before .loop .i ≡ start .count = omega arith in
+    c .before .loop .inv .1 ∙ ap (λ (k : ℕ). sets (start .room .now) (start .at) (eventsFrom (start .numbers .now) (start .values .now) (start .from) k)) all
 
 pub lay-events-spec : {M : Type 1} → statement M
 lay-events-spec =
@@ -76,18 +63,18 @@ lay-events-spec =
     (tie.spec
     Inv-loop
     μ-loop
-    loop-holds
-    add-slot
-    mul-event-number
-    element-copy-out-event-number
-    mul-event-number-2
-    element-copy-out-event-number-2
-    event-number-requires
-    add-room
+    (λ c. (search needs, refl))
+    (λ c. omega arith)
+    (λ c. omega arith)
+    (λ c. omega arith)
+    (λ c. omega arith)
+    (λ c. omega arith)
+    (λ c κs. search needs)
+    (λ c. omega (arith, room-small (c .before .before .before .before .before)))
     mul-room
     slice-write-room
-    add-i
-    loop-less
+    (λ c. omega (arith, room-small (c .before .before .before .before .before)))
+    (λ c. omega arith)
     loop-again
     same-length
     returns)

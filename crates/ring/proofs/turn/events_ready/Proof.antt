@@ -1,67 +1,44 @@
+-- `turn::events_ready` is the definition: the least of three for an Event, and none for another rule. Assumes nothing.
+use mathlib.Core.Path.{_≡_, refl}
+use mathlib.Core.List.{[], _∷_}
+use native.Mathlib.Omega.{arith}
 use borrow.Author.Needs.{needs}
+use Rattle.ring.specs.Turn.{ready}
+use Rattle.ring.specs.declared.moves.Fetch.{Fetch}
+use Rattle.ring.proofs.moves.Laws.{fetch-of-numbers}
 use Rattle.ring.proofs.turn.events_ready.Statement.{statement}
 use Rattle.ring.proofs.turn.events_ready.Tie as tie
-use Rattle.ring.proofs.turn.events_ready.Reads as reads
-use Rattle.ring.proofs.turn.events_ready.Lts as lts
-use Rattle.ring.proofs.read.read_limit.Reads as read-limit-reads
-use Rattle.ring.proofs.turn.smaller.Reads as smaller-reads
 
--- src/turn.rt:45:24
-enum-told : tie.Need-enum-told
-enum-told c = search needs
-
--- src/turn.rt:45:24
-read-limit-requires : tie.Need-read-limit-requires
-read-limit-requires c κs = search needs
-
--- src/turn.rt:45:24
 sub-here : tie.Need-sub-here
-sub-here c = ?
+sub-here c =
+    let start = c .before .before .before .before in
+    omega (arith, start .pre .here (c .before .before .enum-told .given .1), c .before .read-limit .ensures)
 
--- src/turn.rt:46:27
-add-allowed : tie.Need-add-allowed
-add-allowed c = search needs
-
--- src/turn.rt:46:51
-add-allowed-2 : tie.Need-add-allowed-2
-add-allowed-2 c = search needs
-
--- src/turn.rt:46:27
-sub-allowed : tie.Need-sub-allowed
-sub-allowed c = search needs
-
--- src/turn.rt:47:29
-cast-smaller : tie.Need-cast-smaller
-cast-smaller c = search needs
-
--- src/turn.rt:47:21
-smaller-requires : tie.Need-smaller-requires
-smaller-requires c κs = search needs
-
--- src/turn.rt:47:13
-smaller-requires-2 : tie.Need-smaller-requires-2
-smaller-requires-2 c κs = search needs
-
--- src/turn.rt:33:1
 returns : tie.Need-returns
-returns c = ?
+returns c =
+    rw (c .smaller2 .ensures, c .before .smaller .ensures, c .before .before .before .before .before .read-limit .ensures,
+    c .before .before .before .before .before .before .enum-told .given .1)
 
--- src/turn.rt:33:1
+-- every rule but that of an Event
 returns-2 : tie.Need-returns-2
-returns-2 c = ?
+returns-2 c =
+    let a = c .before .args in
+    fetch-of-numbers (λ (f : Fetch). 0 ≡ ready f (a .places) (a .counts) (a .used .now) (a .room)) (1 ∷ 2 ∷ 3 ∷ 4 ∷ 5 ∷ 6 ∷ []) (a .f)
+    (refl, (refl, ((λ p h. refl), ((λ p h. refl), ((λ p h. refl), (refl, tt))))))
+    (c .match .keys2)
 
 pub events-ready-spec : {M : Type 1} → statement M
 events-ready-spec =
     tie.close
     (tie.spec
-    enum-told
-    read-limit-requires
+    (λ c. search needs)
+    (λ c κs. search needs)
     sub-here
-    add-allowed
-    add-allowed-2
-    sub-allowed
-    cast-smaller
-    smaller-requires
-    smaller-requires-2
+    (λ c. search needs)
+    (λ c. search needs)
+    (λ c. search needs)
+    (λ c. search needs)
+    (λ c κs. search needs)
+    (λ c κs. search needs)
     returns
     returns-2)

@@ -1,28 +1,27 @@
+-- `turn::left_after` is the definition, by the rule that applies. Assumes nothing.
+use mathlib.Core.Path.{_≡_, refl}
+use mathlib.Core.List.{[], _∷_}
+use Prim.Native.Nat.{_-_}
 use borrow.Author.Needs.{needs}
+use Rattle.ring.specs.Turn.{leftAfter}
+use Rattle.ring.specs.declared.moves.Fetch.{Fetch}
+use Rattle.ring.proofs.moves.Laws.{fetch-of-numbers}
 use Rattle.ring.proofs.turn.left_after.Statement.{statement}
 use Rattle.ring.proofs.turn.left_after.Tie as tie
-use Rattle.ring.proofs.turn.left_after.Reads as reads
-use Rattle.ring.proofs.turn.left_after.Lts as lts
 
--- src/turn.rt:71:25
-enum-told : tie.Need-enum-told
-enum-told c = search needs
-
--- src/turn.rt:73:14
-sub-result : tie.Need-sub-result
-sub-result c = search needs
-
--- src/turn.rt:66:1
-returns : tie.Need-returns
-returns c = search needs
-
--- src/turn.rt:66:1
+-- Empty and Busy
 returns-2 : tie.Need-returns-2
-returns-2 c = ?
+returns-2 c =
+    let a = c .before .args in
+    fetch-of-numbers (λ (f : Fetch). 0 ≡ leftAfter f (a .left)) (1 ∷ 2 ∷ []) (a .f) (refl, (refl, tt)) (c .match .keys2)
 
--- src/turn.rt:66:1
+-- the quiet ones
 returns-3 : tie.Need-returns-3
-returns-3 c = ?
+returns-3 c =
+    let a = c .before .args in
+    fetch-of-numbers (λ (f : Fetch). a .left - 1 ≡ leftAfter f (a .left)) (3 ∷ 4 ∷ 5 ∷ 6 ∷ []) (a .f)
+    ((λ p h. refl), ((λ p h. refl), ((λ p h. refl), (refl, tt))))
+    (c .match .keys3)
 
 pub left-after-spec : {M : Type 1} → statement M
-left-after-spec = tie.close (tie.spec enum-told sub-result returns returns-2 returns-3)
+left-after-spec = tie.close (tie.spec (λ c. search needs) (λ c. search needs) (λ c. search needs) returns-2 returns-3)

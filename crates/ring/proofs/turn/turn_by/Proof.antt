@@ -1,74 +1,62 @@
+-- `turn::turn_by` puts the pieces together as the definition does. What each piece asks is in `TurnFits`. Assumes nothing.
+use Prim.Native.Nat.{_+_, _≤_}
+use native.Mathlib.Omega.{arith}
 use borrow.Author.Needs.{needs}
+use Rattle.ring.specs.Limits.{mostSlots}
 use Rattle.ring.proofs.turn.turn_by.Statement.{statement}
 use Rattle.ring.proofs.turn.turn_by.Tie as tie
-use Rattle.ring.proofs.turn.turn_by.Reads as reads
-use Rattle.ring.proofs.turn.turn_by.Lts as lts
-use Rattle.ring.proofs.cells.slot_index.Reads as slot-index-reads
-use Rattle.ring.proofs.pieces.read_answer.Reads as read-answer-reads
-use Rattle.ring.proofs.pieces.read_phase.Reads as read-phase-reads
-use Rattle.ring.proofs.pieces.read_places.Reads as read-places-reads
-use Rattle.ring.proofs.pieces.read_stores.Reads as read-stores-reads
-use Rattle.ring.proofs.read.plan_reader.Reads as plan-reader-reads
-use Rattle.ring.proofs.turn.events_ready.Reads as events-ready-reads
-use Rattle.ring.proofs.turn.left_after.Reads as left-after-reads
-use Rattle.ring.proofs.turn.places_before.Reads as places-before-reads
 
--- src/turn.rt:92:9
-plan-reader-requires : tie.Need-plan-reader-requires
-plan-reader-requires c κs = search needs
-
--- src/turn.rt:93:9
 events-ready-requires : tie.Need-events-ready-requires
-events-ready-requires c κs = ?
+events-ready-requires c κs = rw (c .plan-reader .ensures) (c .before .pre .events)
 
--- src/turn.rt:94:9
-slot-index-requires : tie.Need-slot-index-requires
-slot-index-requires c κs = search needs
+-- so many Events, and no more than a page has slots
+few : (c : tie.After-events-ready) → c .before .before .args .places .position + c .events-ready .result ≤ mostSlots
+few c = rw (c .events-ready .ensures, c .before .plan-reader .ensures) (c .before .before .pre .few)
 
--- src/turn.rt:95:9
 places-before-requires : tie.Need-places-before-requires
-places-before-requires c κs = ?
+places-before-requires c κs = omega (arith, few (c .before))
 
--- src/turn.rt:96:9
 read-answer-requires : tie.Need-read-answer-requires
-read-answer-requires c κs = ?
+read-answer-requires c κs =
+    rw (c .places-before .ensures, c .before .before .events-ready .ensures, c .before .before .before .plan-reader .ensures)
+    (c .before .before .before .before .pre .event)
 
--- src/turn.rt:97:9
-left-after-requires : tie.Need-left-after-requires
-left-after-requires c κs = search needs
-
--- src/turn.rt:98:18
 add-handed : tie.Need-add-handed
-add-handed c = ?
+add-handed c =
+    let fits = c .before .before .before .before .before .before .before .pre .events in
+    omega (arith, few (c .before .before .before .before .before), fits .agree, fits .committed)
 
--- src/turn.rt:99:9
 read-places-requires : tie.Need-read-places-requires
-read-places-requires c κs = ?
+read-places-requires c κs =
+    let before = c .before .before .before in
+    rw (before .places-before .ensures) (omega (arith, few (before .before .before)))
 
--- src/turn.rt:100:9
-read-phase-requires : tie.Need-read-phase-requires
-read-phase-requires c κs = search needs
-
--- src/turn.rt:101:9
 read-stores-requires : tie.Need-read-stores-requires
-read-stores-requires c κs = ?
+read-stores-requires c κs =
+    let start = c .before .before .before .before .before .before .before .before .before in
+    rw (c .before .before .before .before .before .before .before .before .plan-reader .ensures) (start .pre .fetch, start .pre .page)
 
--- src/turn.rt:77:1
 returns : tie.Need-returns
-returns c = ?
+returns c =
+    rw
+    (c .read-stores .ensures, c .before .read-phase .ensures, c .before .before .read-places .ensures, c .before .before .before .before .left-after .ensures,
+    c .before .before .before .before .before .read-answer .ensures, c .before .before .before .before .before .before .places-before .ensures,
+    c .before .before .before .before .before .before .before .slot-index .ensures,
+    c .before .before .before .before .before .before .before .before .events-ready .ensures,
+    c .before .before .before .before .before .before .before .before .before .plan-reader .ensures)
 
 pub turn-by-spec : {M : Type 1} → statement M
 turn-by-spec =
     tie.close
     (tie.spec
-    plan-reader-requires
+    (λ c κs. search needs)
     events-ready-requires
-    slot-index-requires
+    (λ c κs. search needs)
     places-before-requires
     read-answer-requires
-    left-after-requires
+    (λ c κs. search needs)
     add-handed
     read-places-requires
-    read-phase-requires
+    (λ c κs. search needs)
     read-stores-requires
     returns)
