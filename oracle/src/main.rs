@@ -8,6 +8,7 @@ mod builder;
 mod cases;
 mod demand;
 mod drain;
+mod drains;
 mod draws;
 mod random;
 mod replay;
