@@ -2,9 +2,10 @@
 //! out; the ring is held to it. The other sections of `cases` follow.
 
 use self::Line::{Act, Commit, Committed, Depth, Fresh, Overwritten, ReaderPage, Words};
+use crate::drain;
 use crate::ring::Action::{Begin, Read, Write};
 use crate::ring::{Action, Answer, Receipt, Refusal, Ring};
-use crate::text::{self, Tally};
+use crate::text::{self, LastAnswers, Tally};
 
 /// A line of a case and what 01 says stands there.
 enum Line {
@@ -183,11 +184,13 @@ pub fn run() -> Result<String, String> {
     small_ring(&mut out)?;
     section(&mut out, OUT_OF_SHAPE, out_of_shape)?;
     section(&mut out, MANY, many_readings)?;
+    section(&mut out, EVENING, drained_evening)?;
     Ok(out)
 }
 
 const OUT_OF_SHAPE: &str = "Out of shape: fresh(2, 1, 0) with its read position set to 2";
 const MANY: &str = "65537 readings in stop mode, each written and then read until Empty";
+const EVENING: &str = "An evening of 65537 readings in stop mode, drained through small buffers";
 
 /// A section with its heading; what differs in it is told with the heading.
 fn section<F>(out: &mut String, name: &str, run: F) -> Result<(), String>
@@ -302,10 +305,12 @@ fn out_of_shape(out: &mut String) -> Result<(), String> {
     Ok(())
 }
 
+/// "65,537 readings".
+const READINGS: u32 = 65_537;
+
 /// "N = 16, S = 16, stop mode, 65,537 readings, each written and then read until
 /// Empty. Receipt 65,537 of 65,537, complete."
 fn many_readings(out: &mut String) -> Result<(), String> {
-    const READINGS: u32 = 65_537;
     let (mut ring, answer) = Ring::fresh(16, 16, 1);
     act_line(out, &text::fresh(16, 16, 1), answer, Answer::Accepted)?;
     let mut tally = Tally::default();
@@ -352,4 +357,83 @@ fn until_empty(ring: &mut Ring, tally: &mut Tally, i: u32) -> Result<u64, String
         }
     }
     Err(format!("{STEPS} Reads without Empty"))
+}
+
+/// "0, 1, 2, 3, 5, 8, 13, 64 in turn".
+const LENGTHS: [usize; 8] = [0, 1, 2, 3, 5, 8, 13, 64];
+/// What an element of the buffer holds before each drain.
+const OLD: u64 = u64::MAX;
+
+/// The drains of an evening and what is told of them.
+#[derive(Default)]
+struct Evening {
+    drains: u64,
+    lasts: LastAnswers,
+    stored: u64,
+    in_order: u64,
+    kept: u64,
+}
+
+impl Evening {
+    /// A drain lent the first `length` of 64 elements; its last answer.
+    fn drain(&mut self, ring: &mut Ring, length: usize) -> Result<Option<Answer>, String> {
+        let mut buffer = [OLD; 64];
+        let drained = drain::checked(ring, &mut buffer, length)?;
+        drained.of_reached()?;
+        self.drains += 1;
+        self.lasts.count(drained.last);
+        let (part, rest) = buffer.split_at(drained.filled);
+        for &element in part {
+            self.in_order += u64::from(element == self.stored << 32 | self.stored);
+            self.stored += 1;
+        }
+        self.kept += rest.iter().filter(|&&element| element == OLD).count() as u64;
+        Ok(drained.last)
+    }
+
+    /// "drains that are lent one element each, until the last answer is not an Event".
+    fn until_no_event(&mut self, ring: &mut Ring) -> Result<(), String> {
+        for _ in 0..STEPS {
+            let last = self.drain(ring, 1)?;
+            if !matches!(last, Some(Answer::Event(..))) {
+                return Ok(());
+            }
+        }
+        Err(format!("{STEPS} drains, each with an Event"))
+    }
+
+    /// Of every 32 readings the first six drains take 0, 1, 2, 3, 5 and 8, the seventh
+    /// the 9 others of the 28 then written, and the eighth the last 4. After the last
+    /// reading one drain takes it, and one finds the ring Empty.
+    fn print(&self, out: &mut String) -> Result<(), String> {
+        let (all, drains) = (u64::from(READINGS), 2048 * 8 + 2);
+        fact_line(out, "drains", self.drains, drains)?;
+        self.lasts.print(out);
+        fact_line(out, "stored", self.stored, all)?;
+        fact_line(out, "in order", self.in_order, all)?;
+        fact_line(out, "kept", self.kept, 64 * drains - all)
+    }
+}
+
+/// The same readings as an evening, drained after every fourth one and at the end.
+fn drained_evening(out: &mut String) -> Result<(), String> {
+    let (mut ring, answer) = Ring::fresh(16, 16, 1);
+    act_line(out, &text::fresh(16, 16, 1), answer, Answer::Accepted)?;
+    let mut tally = Tally::default();
+    let mut evening = Evening::default();
+    for i in 0..READINGS {
+        tally.count(ring.act(Begin(i)));
+        until_written(&mut ring, &mut tally)?;
+        if i % 4 == 3 {
+            let turn = i as usize / 4;
+            evening.drain(&mut ring, LENGTHS[turn % LENGTHS.len()])?;
+        }
+    }
+    evening.until_no_event(&mut ring)?;
+    tally.print(out);
+    evening.print(out)?;
+    let receipt = ring.receipt();
+    text::receipt(out, &receipt);
+    let all = u64::from(READINGS);
+    hold_receipt(&receipt, [all, all, all, 0, 0, 0, 0], true)
 }

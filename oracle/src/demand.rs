@@ -46,7 +46,7 @@ pub struct History {
     lies: Vec<Lies>,
 }
 
-fn must(holds: bool, otherwise: &str) -> Result<(), String> {
+pub fn must(holds: bool, otherwise: &str) -> Result<(), String> {
     if holds {
         Ok(())
     } else {

@@ -157,6 +157,21 @@ impl Digest {
         self.fold(u32::from(receipt.complete));
     }
 
+    /// "the last answer, as 0 for none and else 1, then, where there is one, the answer;
+    /// how many elements the part has ...; all 40 elements of the buffer, each as a
+    /// count; and the ring".
+    pub fn drain(&mut self, last: Option<Answer>, part: usize, buffer: &[u64], ring: &Ring) {
+        self.fold(u32::from(last.is_some()));
+        if let Some(answer) = last {
+            self.answer(answer);
+        }
+        self.fold(part as u32);
+        for &element in buffer {
+            self.count(element);
+        }
+        self.ring(ring);
+    }
+
     /// "eight hexadecimal digits".
     pub fn text(&self) -> String {
         format!("{:08x}", self.h)

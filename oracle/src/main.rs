@@ -1,12 +1,14 @@
 //! The ring's rules a second time, written from document 01 and not from the
 //! ring's code; where 01 leaves a point open, by docs/DECISIONS.md. The trace's are
-//! from request E1 of document 02. `oracle cases`, `oracle random` and `oracle replay`
-//! print the text of docs/PROGRAMS.md; `oracle samples` and `oracle traces` write
-//! files for `replay`.
+//! from request E1 of document 02, the drain's from E2. `oracle cases`, `oracle random`
+//! and `oracle replay` print the text of docs/PROGRAMS.md; `oracle samples` and `oracle
+//! traces` write files for `replay`.
 
 mod builder;
 mod cases;
 mod demand;
+mod drain;
+mod drains;
 mod draws;
 mod random;
 mod replay;

@@ -1,8 +1,10 @@
-//! The text of `random` (docs/PROGRAMS.md); every list is also held to demand 3.
+//! The text of `random` (docs/PROGRAMS.md); every list is also held to demand 3. Its
+//! drains are in `drains`.
 
 use std::ops::Range;
 
-use crate::demand::History;
+use crate::demand::{must, History};
+use crate::drains;
 use crate::draws::{Digest, Generator};
 use crate::ring::{Action, Ring};
 use crate::states;
@@ -20,13 +22,21 @@ pub fn run() -> Result<String, String> {
     let mut out = String::new();
     lists(&mut out)?;
     all_states(&mut out)?;
+    drains::lists(&mut out)?;
+    drains::states(&mut out)?;
     Ok(out)
 }
 
-/// N, S and mode of a list.
-fn setup(number: u32) -> (u32, u32, u32) {
-    let i = number / LISTS_OF_SETUP;
+/// N, S and mode of set-up i.
+pub fn setup(i: u32) -> (u32, u32, u32) {
     (2 + i / 32, 1 + i % 16, (i / 16) % 2)
+}
+
+/// The line of a group of lists whose first set-up is i.
+pub fn group_line(out: &mut String, i: u32, digest: &Digest) {
+    let (n, _, mode) = setup(i);
+    let mode = if mode == 0 { "overwrite" } else { "stop" };
+    text::line(out, &format!("N = {n}, {mode}"), &digest.text());
 }
 
 fn lists(out: &mut String) -> Result<(), String> {
@@ -39,9 +49,7 @@ fn lists(out: &mut String) -> Result<(), String> {
         for number in first..first + LISTS_OF_GROUP {
             list(number, &mut digest, &mut tally)?;
         }
-        let (n, _, mode) = setup(first);
-        let mode = if mode == 0 { "overwrite" } else { "stop" };
-        text::line(out, &format!("N = {n}, {mode}"), &digest.text());
+        group_line(out, first / LISTS_OF_SETUP, &digest);
     }
     text::heading(out, "Answers to the lists");
     tally.print(out);
@@ -51,7 +59,7 @@ fn lists(out: &mut String) -> Result<(), String> {
 /// One list from its set-up, with demand 3 after each action.
 fn list(number: u32, digest: &mut Digest, tally: &mut Tally) -> Result<(), String> {
     let mut draws = Generator::new(u64::from(number) + 1);
-    let (n, s, mode) = setup(number);
+    let (n, s, mode) = setup(number / LISTS_OF_SETUP);
     let (mut ring, answer) = Ring::fresh(n, s, mode);
     tally.count(answer);
     digest.answer(answer);
@@ -96,42 +104,57 @@ fn action(number: u32, draws: &mut Generator) -> Action {
 }
 
 /// "10 groups of 4,000 states in shape, and then 31 groups of 1,000 states out of
-/// shape, one for each break", numbered from 0 through all groups.
+/// shape, one for each break".
 fn all_states(out: &mut String) -> Result<(), String> {
     let title = "Random states: each of the three actions on 71000 states";
     text::heading(out, title);
     let mut tally = Tally::default();
-    let mut next = 0;
-    for group in 1..=10 {
-        let digest = state_group(next..next + 4000, 0, &mut tally)?;
-        text::line(out, &format!("in shape {group}"), &digest.text());
-        next += 4000;
-    }
-    for which in 1..=31 {
-        let digest = state_group(next..next + 1000, which, &mut tally)?;
-        text::line(out, &format!("break {which}"), &digest.text());
-        next += 1000;
-    }
+    state_groups(out, 1000, |numbers, which| {
+        state_group(numbers, which, &mut tally)
+    })?;
     text::heading(out, "Answers to the states");
     tally.print(out);
     Ok(())
 }
 
-/// The digest of a group of states, with break `which`, or in shape for 0. The shape
-/// test must agree, and what is out of shape must come back as it was.
+/// A line for each group of states, numbered from 0 through all groups: 4,000 in each of
+/// those in shape, `broken` in each of those out of shape.
+pub fn state_groups<F>(out: &mut String, broken: u64, mut digest_of: F) -> Result<(), String>
+where
+    F: FnMut(Range<u64>, u32) -> Result<Digest, String>,
+{
+    let mut next = 0;
+    for group in 1..=10 {
+        let digest = digest_of(next..next + 4000, 0)?;
+        text::line(out, &format!("in shape {group}"), &digest.text());
+        next += 4000;
+    }
+    for which in 1..=31 {
+        let digest = digest_of(next..next + broken, which)?;
+        text::line(out, &format!("break {which}"), &digest.text());
+        next += broken;
+    }
+    Ok(())
+}
+
+/// A state with break `which`, or in shape for 0; the shape test must agree.
+pub fn state(which: u32, draws: &mut Generator) -> Result<Ring, String> {
+    let ring = match which {
+        0 => states::in_shape(draws),
+        _ => states::broken(which, draws),
+    };
+    must(ring.in_shape() == (which == 0), "the shape test is wrong")?;
+    Ok(ring)
+}
+
+/// The digest of a group of states, with break `which`, or in shape for 0. What is out
+/// of shape must come back as it was.
 fn state_group(numbers: Range<u64>, which: u32, tally: &mut Tally) -> Result<Digest, String> {
     let mut digest = Digest::new();
     for number in numbers {
+        let told = |fails| format!("state {number}, break {which}: {fails}");
         let mut draws = Generator::new(1_000_000 + number);
-        let ring = match which {
-            0 => states::in_shape(&mut draws),
-            _ => states::broken(which, &mut draws),
-        };
-        if ring.in_shape() != (which == 0) {
-            return Err(format!(
-                "state {number}, break {which}: the shape test is wrong"
-            ));
-        }
+        let ring = state(which, &mut draws).map_err(told)?;
         digest.receipt(&ring.receipt());
         for action in [Action::Begin(draws.any()), Action::Write, Action::Read] {
             let mut after = ring.clone();
@@ -140,9 +163,7 @@ fn state_group(numbers: Range<u64>, which: u32, tally: &mut Tally) -> Result<Dig
             digest.answer(answer);
             digest.ring(&after);
             digest.receipt(&after.receipt());
-            if which != 0 && after != ring {
-                return Err(format!("state {number}, break {which}: not the same state"));
-            }
+            must(which == 0 || after == ring, "not the same state").map_err(told)?;
         }
     }
     Ok(digest)

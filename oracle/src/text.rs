@@ -196,3 +196,25 @@ impl Tally {
         }
     }
 }
+
+/// The last answers of drains, which may have none.
+#[derive(Default)]
+pub struct LastAnswers {
+    none: u64,
+    tally: Tally,
+}
+
+impl LastAnswers {
+    pub fn count(&mut self, last: Option<Answer>) {
+        match last {
+            Some(answer) => self.tally.count(answer),
+            None => self.none += 1,
+        }
+    }
+
+    /// The line `none`, "printed also where that is 0", and the tally.
+    pub fn print(&self, out: &mut String) {
+        line(out, "none", &self.none.to_string());
+        self.tally.print(out);
+    }
+}
