@@ -43,7 +43,7 @@ module _ (r : Ring) (s : InShape r) where
   abbrev Here : Fetch → Type 0
   Here f = Within (r .places .position) (r .size .slots) (r .size .pages) f
 
-  limit-fits : readLimit (r .places) (r .used) ≤ r .size .slots
+  pub limit-fits : readLimit (r .places) (r .used) ≤ r .size .slots
   limit-fits =
       let used = s .used-at (r .places .reader .0) (s .reader) in
       by-cond (λ (k : ℕ). k ≤ r .size .slots) (readerOnCommit (r .places)) (λ e. omega (arith, s)) (λ e. omega (arith, s, used))

@@ -1,0 +1,135 @@
+-- What a Read leaves of the shape: a ring in shape of which a Read changed the reader, the read position and the cells that its rule names is in shape, as far as the
+-- counts are. First what it tells that a rule applies; then a ring in shape with other pieces that fit; then the cells.
+-- Assumes nothing.
+use mathlib.Core.Path.{_≡_, refl, sym, ap, _∙_}
+use mathlib.Core.Bool.{Bool, true, false, _&&_}
+use mathlib.Core.List.{List}
+use Prim.Native.Nat.{ℕ, _+_, _*_, _/_, _%_, _≤_, _<_}
+use native.Mathlib.Omega.{arith}
+use borrow.Author.Tests.{ltb-true, le-leb, leb-true, ne-eqb}
+use lib.Dec.{eqb, ltb, leb}
+use lib.ListN.{length, getD, set}
+use lib.Seq.{getD-set-same, getD-set-other, set-out}
+use Rattle.ring.specs.Limits.{normal, header, bothFlags}
+use Rattle.ring.specs.State.{page, wordAt, usedAt, withReader, withPlaces, withCounts, withWords, withUsed}
+use Rattle.ring.specs.Words.{pageIn, flagIn, wordOf, readerOnCommit, links, findHeader}
+use Rattle.ring.specs.Shape.{placesFit, countsFit, pageTests, pagesFit, readerFits, wordFits, wordFitsAt, wordsFit, usedFitsAt, usedFit, layoutTests, layoutFits, ringFits, numbersFit, inShape}
+use Rattle.ring.specs.Read.{readLimit, findBy, planReader, planRead}
+use Rattle.ring.specs.declared.state.PageNo.{PageNo}
+use Rattle.ring.specs.declared.state.Places.{Places}
+use Rattle.ring.specs.declared.state.Counts.{Counts}
+use Rattle.ring.specs.declared.state.Reader.{Reader}
+use Rattle.ring.specs.declared.state.ReaderPhase.{ReaderPhase}
+use Rattle.ring.specs.declared.state.ReaderPhase.the-variants as phase
+use Rattle.ring.specs.declared.state.Ring.{Ring}
+use Rattle.ring.specs.declared.moves.Search.{Search}
+use Rattle.ring.specs.declared.moves.Search.the-variants.{At, Nowhere}
+use Rattle.ring.specs.declared.moves.Fetch.{Fetch}
+use Rattle.ring.specs.declared.moves.Fetch.the-variants.{Event, Empty, Busy, Find, Prepare, Swap, Miss}
+use Rattle.ring.proofs.Lists.{by-eq, by-lt, by-cond, and-left, and-right, and-both, each, every-each, allBelow-at, allBelow-all}
+use Rattle.ring.proofs.order.Search.{Tells, search-tells}
+use Rattle.ring.proofs.shape.Laws.{InShape, pages-fit}
+
+-- ---- what it tells that a rule applies
+
+-- a ring's two pages
+abbrev Pages : Ring → PageNo → PageNo → Type 0
+Pages r p h = (p .0 ≤ r .size .pages) × (h .0 ≤ r .size .pages)
+
+abbrev pub Planned : Ring → Fetch → Type 0
+Planned r Event = (r .reader .phase ≡ phase.Idle) × (r .places .position < readLimit (r .places) (r .used))
+Planned r Empty = Unit {0}
+Planned r Busy = Unit {0}
+Planned r (Find p h) = Pages r p h
+Planned r (Prepare p h) = Pages r p h
+Planned r (Swap p h) = Pages r p h
+Planned r Miss = Unit {0}
+
+module _ (r : Ring) (s : InShape r) where
+  pub next-fits : (p : ℕ) → p ≤ r .size .pages → pageIn (wordAt (r .words) (page p)) .0 ≤ r .size .pages
+  next-fits p hp =
+      let w = wordAt (r .words) (page p) in
+      leb-true (pageIn w .0) (r .size .pages) (and-left (leb (pageIn w .0) (r .size .pages)) _ (s .word-at p hp))
+
+  find-planned : (found : Search) → Tells (r .words) (r .size .pages) (r .places .reader .0) found → Planned r (findBy found)
+  find-planned (At p h) t = (t .0, rw (t .3) (next-fits (p .0) (t .0)))
+  find-planned Nowhere t = tt
+
+  phase-planned : (ph : ReaderPhase) → r .reader .phase ≡ ph → readerFits ph (r .size) ≡ true → Planned r (planReader ph (r .size) (r .places) (r .words) (r .used))
+  phase-planned phase.Idle e fits =
+      by-cond (Planned r) (ltb (r .places .position) (readLimit (r .places) (r .used)))
+      (λ l. (e, ltb-true (r .places .position) (readLimit (r .places) (r .used)) l))
+      (λ l.
+      by-cond (Planned r) (readerOnCommit (r .places))
+      (λ k. tt)
+      (λ k. find-planned (findHeader (r .words) (r .size .pages) (r .places .reader)) (search-tells (r .words) (r .size .pages) (r .places .reader))))
+  phase-planned (phase.Found p h) e fits = pages-fit p h (r .size .pages) fits
+  phase-planned (phase.Ready p h) e fits =
+      by-cond (Planned r) (links (r .words) p h header) (λ k. pages-fit p h (r .size .pages) fits) (λ k. tt)
+
+  pub planned : Planned r (planRead r)
+  planned = phase-planned (r .reader .phase) refl (s .phase)
+
+-- ---- a ring in shape with other pieces that fit
+
+-- the tests of the pieces that a Read changes
+pub record Parts (r : Ring) : Type 0 where
+  pub places : placesFit (r .places) (r .size) ≡ true
+  pub reader : readerFits (r .reader .phase) (r .size) ≡ true
+  pub words : wordsFit (r .words) (r .size .pages) ≡ true
+  pub used : usedFit (r .used) (r .size .pages) (r .size .slots) ≡ true
+
+module _ (r : Ring) (h : inShape r ≡ true) where
+  pub parts : Parts r
+  unfolding inShape layoutFits
+  parts =
+      let l = layoutFits (r .size) (r .places) (r .reader) (r .stack) (r .depth) (r .words) (r .used) in
+      let whole = and-left (ringFits r) (numbersFit (r .numbers)) h in
+      let e = each (layoutTests (r .size) (r .places) (r .reader) (r .stack) (r .depth) (r .words) (r .used)) (and-right (countsFit (r .counts)) l whole) in
+      record { places = e .1 .0; reader = e .1 .1 .0; words = e .1 .1 .1 .1 .0; used = e .1 .1 .1 .1 .1 .0 }
+
+  -- the pieces stored
+  abbrev with : Counts → Places → Reader → List ℕ → List ℕ → Ring
+  with counts places reader words used = withReader reader (withPlaces places (withCounts counts (withWords words (withUsed used r))))
+
+  pub reshaped :
+      (counts : Counts) (places : Places) (reader : Reader) (words used : List ℕ) →
+      countsFit counts ≡ true →
+      Parts (with counts places reader words used) →
+      inShape (with counts places reader words used) ≡ true
+  unfolding inShape layoutFits
+  reshaped counts places reader words used c p =
+      let l = layoutFits (r .size) (r .places) (r .reader) (r .stack) (r .depth) (r .words) (r .used) in
+      let whole = and-left (ringFits r) (numbersFit (r .numbers)) h in
+      let e = each (layoutTests (r .size) (r .places) (r .reader) (r .stack) (r .depth) (r .words) (r .used)) (and-right (countsFit (r .counts)) l whole) in
+      and-both
+      (and-both c
+      (every-each (layoutTests (r .size) places reader (r .stack) (r .depth) words used)
+      (e .0, (p .places, (p .reader, (e .1 .1 .1 .0, (p .words, (p .used, tt))))))))
+      (and-right (ringFits r) (numbersFit (r .numbers)) h)
+
+-- ---- the cells
+
+-- the element stored, or one that was there; a place that the list does not have is not stored to
+set-fits : (f : ℕ → Bool) (l : List ℕ) (i x : ℕ) → f x ≡ true → (j : ℕ) → f (getD l j 0) ≡ true → f (getD (set l i x) j 0) ≡ true
+set-fits f l i x fx j fj =
+    by-lt i (length l)
+    (λ lt. by-eq j i (λ e. rw (e, getD-set-same l i x 0 lt) fx) (λ n. rw (getD-set-other l i j x 0 n) fj))
+    (λ ge. rw (set-out l i x ge) fj)
+
+module _ (n : ℕ) where
+  pub word-fits : (p : PageNo) (flag : ℕ) → p .0 ≤ n → flag < bothFlags → wordFits (wordOf p flag) n ≡ true
+  word-fits p flag hp hf =
+      let q : (4 * p .0 + flag) / 4 ≡ p .0 = omega arith in
+      let m : (4 * p .0 + flag) % 4 ≡ flag = omega arith in
+      rw (q, m, le-leb (p .0) n hp, ne-eqb flag bothFlags (omega arith))
+
+  pub set-word : (words : List ℕ) (i w : ℕ) → wordsFit words n ≡ true → wordFits w n ≡ true → wordsFit (set words i w) n ≡ true
+  set-word words i w all one =
+      allBelow-all (wordFitsAt (set words i w) n) (n + 1)
+      (λ p hp. set-fits (λ (x : ℕ). wordFits x n) words i w one p (allBelow-at (wordFitsAt words n) (n + 1) p all hp))
+
+  pub no-used : (used : List ℕ) (slots i : ℕ) → usedFit used n slots ≡ true → usedFit (set used i 0) n slots ≡ true
+  no-used used slots i all =
+      allBelow-all (usedFitsAt (set used i 0) slots) (n + 1)
+      (λ p hp. set-fits (λ (x : ℕ). leb x slots) used i 0 (le-leb 0 slots (omega arith)) p (allBelow-at (usedFitsAt used slots) (n + 1) p all hp))

@@ -1,0 +1,2 @@
+-- What a turn of a drain does.
+pub mod Laws

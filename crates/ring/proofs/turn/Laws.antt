@@ -1,0 +1,379 @@
+-- A turn of a drain, made on a ring in shape by storing its pieces, makes the Reads that the definition makes (`turn-drains`): one for a rule that is no Event's, and for an
+-- Event as many as are told. It leaves all of the shape but the counts, and these are at most one off.
+-- Assumes nothing.
+use mathlib.Core.Path.{_≡_, refl, sym, ap, _∙_, subst}
+use mathlib.Core.Bool.{Bool, true, false, cond}
+use mathlib.Core.List.{List, [], _∷_, _++_}
+use Prim.Native.Nat.{ℕ, zero, suc, _+_, _-_, _*_, _≤_, _<_}
+use native.Mathlib.Omega.{arith}
+use borrow.Author.Tests.{ltb-true, ltb-false, lt-ltb, le-leb}
+use lib.Dec.{ltb}
+use lib.ListN.{getD, set}
+use lib.Seq.{append-snoc}
+use Rattle.ring.specs.Limits.{mostPages, mostSlots, slotRoom, mostCount, normal, header}
+use Rattle.ring.specs.Lists.{tabulate}
+use Rattle.ring.specs.State.{page, reading, slotIndex, wordAt, placesReader, placesPosition, countsHanded, withReader, withPlaces, withWords, withUsed, withPosition, withHanded}
+use Rattle.ring.specs.Words.{pageIn, wordOf}
+use Rattle.ring.specs.Shape.{placeTests, placesFit, smallTests, agreeTests, countsFit, pageTests, pagesFit, readerFits, wordsFit, usedFit, inShape}
+use Rattle.ring.specs.Read.{readLimit, planRead, fetched, readRule}
+use Rattle.ring.specs.Pieces.{readAnswer, readPlaces, readPhase, readStores, stored}
+use Rattle.ring.specs.Drain.{eventNumber, kindOf, Drain, stop, before, byKind, row, drained, mostQuiet}
+use Rattle.ring.specs.Turn.{eventAt, eventsFrom, smaller, ready, placesBefore, leftAfter, turn, turnOf, turned, TurnFits}
+use Rattle.ring.specs.declared.state.PageNo.{PageNo}
+use Rattle.ring.specs.declared.state.Places.{Places}
+use Rattle.ring.specs.declared.state.Reader.{Reader}
+use Rattle.ring.specs.declared.state.Answer.{Answer}
+use Rattle.ring.specs.declared.state.Answer.the-variants as answer
+use Rattle.ring.specs.declared.state.ReaderPhase.the-variants as phase
+use Rattle.ring.specs.declared.state.Ring.{Ring}
+use Rattle.ring.specs.declared.state.Last.{Last}
+use Rattle.ring.specs.declared.state.Last.the-variants.{Told}
+use Rattle.ring.specs.declared.moves.Fetch.{Fetch}
+use Rattle.ring.specs.declared.moves.Fetch.the-variants.{Event, Empty, Busy, Find, Prepare, Swap, Miss}
+use Rattle.ring.specs.declared.moves.Turn.{Turn}
+use Rattle.ring.proofs.Lists.{by-cond, every-each, and-both}
+use Rattle.ring.proofs.shape.Laws.{InShape, in-shape}
+use Rattle.ring.proofs.read.Laws.{limit-fits}
+use Rattle.ring.proofs.read.Kept.{Planned, next-fits, planned, Parts, parts, reshaped, word-fits, set-word, no-used}
+
+-- ---- what is left of a drain
+
+-- with room for so many elements, and so many Reads before the next Event
+abbrev pub goOn : ℕ → ℕ → Ring → Last → Drain
+goOn zero left r last = stop r last
+goOn (suc room) left r last = row (drained mostQuiet room) left r last
+
+pub go-on : (room : ℕ) (r : Ring) (last : Last) → drained mostQuiet room r last ≡ goOn room mostQuiet r last
+go-on zero r last = refl
+go-on (suc room) r last = refl
+
+-- some events before others
+abbrev pub befores : List ℕ → Drain → Drain
+befores es d = record { ring = d .ring; events = es ++ d .events; last = d .last }
+
+befores-more : (es : List ℕ) (e : ℕ) (d : Drain) → befores es (before e d) ≡ befores (es ++ (e ∷ [])) d
+befores-more es e d = ap (λ (l : List ℕ). record { ring = d .ring; events = l; last = d .last }) (sym (append-snoc es e (d .events)))
+
+-- one Read of a ring in shape
+module _ (q : Ring) (n l : ℕ) (last : Last) where
+  step :
+      {f : Fetch} →
+      inShape q ≡ true →
+      f ≡ planRead q →
+      goOn (suc n) (suc l) q last
+      ≡ byKind (kindOf (fetched f q .answer))
+      (drained mostQuiet n (fetched f q .ring) (Told (fetched f q .answer)))
+      (stop (fetched f q .ring) (Told (fetched f q .answer)))
+      (row (drained mostQuiet n) l (fetched f q .ring) (Told (fetched f q .answer)))
+  step shape e = rw (shape, ← e)
+
+-- ---- the pieces that fit
+
+module _ (r : Ring) (s : InShape r) where
+  handed-fits : (x : ℕ) → x + r .counts .overwritten ≤ r .counts .committed → countsFit (countsHanded x (r .counts)) ≡ true
+  handed-fits x le =
+      let c = r .counts in
+      and-both
+      (every-each (smallTests (countsHanded x c)) (
+        le-leb (c .begun) mostCount (s .begun),
+        (
+          le-leb (c .taken) mostCount (s .taken),
+          (
+            le-leb (c .committed) mostCount (s .committed),
+            (
+              le-leb x mostCount (omega (arith, s)),
+              (le-leb (c .overwritten) mostCount (s .overwritten), (le-leb (c .dropped) mostCount (s .dropped), tt)),
+            ),
+          ),
+        ),
+      ))
+      (every-each (agreeTests (countsHanded x c)) (
+        le-leb (x + c .overwritten) (c .committed) le,
+        (
+          le-leb (c .committed) (c .taken) (s .committed-taken),
+          (le-leb (c .taken + c .dropped) (c .begun) (s .taken-dropped), tt),
+        ),
+      ))
+
+  position-fits : (k : ℕ) → k ≤ r .size .slots → placesFit (placesPosition k (r .places)) (r .size) ≡ true
+  position-fits k le =
+      let p = r .places in
+      every-each (placeTests (placesPosition k p) (r .size)) (
+        le-leb (p .reader .0) (r .size .pages) (s .reader),
+        (
+          le-leb (p .tail .0) (r .size .pages) (s .tail),
+          (
+            le-leb (p .commit .0) (r .size .pages) (s .commit),
+            (le-leb (p .index) (r .size .slots) (s .index), (le-leb k (r .size .slots) le, tt)),
+          ),
+        ),
+      )
+
+  -- a page that becomes the reader page is read from its start
+  swap-fits : (h : PageNo) → h .0 ≤ r .size .pages → placesFit (placesReader h (placesPosition 0 (r .places))) (r .size) ≡ true
+  swap-fits h le =
+      let p = r .places in
+      every-each (placeTests (placesReader h (placesPosition 0 p)) (r .size)) (
+        le-leb (h .0) (r .size .pages) le,
+        (
+          le-leb (p .tail .0) (r .size .pages) (s .tail),
+          (
+            le-leb (p .commit .0) (r .size .pages) (s .commit),
+            (le-leb (p .index) (r .size .slots) (s .index), (le-leb 0 (r .size .slots) (omega arith), tt)),
+          ),
+        ),
+      )
+
+-- ---- Events that stand one after the other
+
+-- the ring once so many readings are handed out
+abbrev out : ℕ → Ring → Ring
+out j r = withPosition (r .places .position + j) (withHanded (r .counts .handed + j) r)
+
+module _ (r : Ring) where
+  -- the slot that is read next
+  abbrev from : ℕ
+  from = slotIndex (r .size) (r .places .reader) (r .places .position)
+
+  abbrev slotAfter : ℕ → ℕ
+  slotAfter j = slotIndex (r .size) (r .places .reader) (r .places .position + j)
+
+  abbrev event : ℕ → ℕ
+  event j = eventAt (r .numbers) (r .values) from j
+
+  -- the answer of the Read after j Events
+  abbrev eventAnswer : ℕ → Answer
+  eventAnswer j = answer.Event (reading (getD (r .numbers) (slotAfter j) 0)) (getD (r .values) (slotAfter j) 0)
+
+  event-told : (j : ℕ) → eventNumber (reading (getD (r .numbers) (slotAfter j) 0)) (getD (r .values) (slotAfter j) 0) ≡ event j
+  event-told j =
+      let same : slotAfter j ≡ from + j = omega arith in
+      ap (λ (k : ℕ). eventNumber (reading (getD (r .numbers) k 0)) (getD (r .values) k 0)) same
+
+  out-more : (j : ℕ) → out 1 (out j r) ≡ out (suc j) r
+  out-more j =
+      let p : r .places .position + j + 1 ≡ r .places .position + suc j = omega arith in
+      let h : r .counts .handed + j + 1 ≡ r .counts .handed + suc j = omega arith in
+      ap (λ (k : ℕ). withPosition k (withHanded (r .counts .handed + j + 1) r)) p
+      ∙ ap (λ (k : ℕ). withPosition (r .places .position + suc j) (withHanded k r)) h
+
+  out-none : out 0 r ≡ r
+  out-none =
+      let p : r .places .position + 0 ≡ r .places .position = omega arith in
+      let h : r .counts .handed + 0 ≡ r .counts .handed = omega arith in
+      ap (λ (k : ℕ). withPosition k (withHanded (r .counts .handed + 0) r)) p ∙ ap (λ (k : ℕ). withHanded k r) h
+
+  module _ (whole : inShape r ≡ true) (idle : r .reader .phase ≡ phase.Idle) where
+    out-shape : (j : ℕ) → r .places .position + j ≤ r .size .slots → r .counts .handed + j + r .counts .overwritten ≤ r .counts .committed → inShape (out j r) ≡ true
+    out-shape j le agree =
+        let s = in-shape r whole in
+        let p = parts r whole in
+        reshaped r whole (countsHanded (r .counts .handed + j) (r .counts)) (placesPosition (r .places .position + j) (r .places)) (r .reader) (r .words) (r .used)
+        (handed-fits r s (r .counts .handed + j) agree)
+        (record { places = position-fits r s (r .places .position + j) le; reader = p .reader; words = p .words; used = p .used })
+
+    -- the Read after j Events is an Event
+    out-plan : (j : ℕ) → r .places .position + j < readLimit (r .places) (r .used) → Event ≡ planRead (out j r)
+    out-plan j lt = rw (idle, lt-ltb (r .places .position + j) (readLimit (r .places) (r .used)) lt)
+
+    one-more :
+        (j n l : ℕ) (last : Last) →
+        inShape (out j r) ≡ true →
+        r .places .position + j < readLimit (r .places) (r .used) →
+        goOn (suc n) (suc l) (out j r) last ≡ before (event j) (goOn n mostQuiet (out (suc j) r) (Told (eventAnswer j)))
+    one-more j n l last shape lt =
+        step (out j r) n l last shape (out-plan j lt)
+        ∙ ap (λ (k : ℕ). before k (drained mostQuiet n (out 1 (out j r)) (Told (eventAnswer j)))) (event-told j)
+        ∙ ap (λ (q : Ring). before (event j) (drained mostQuiet n q (Told (eventAnswer j)))) (out-more j)
+        ∙ ap (before (event j)) (go-on n (out (suc j) r) (Told (eventAnswer j)))
+
+    -- j + 1 Events
+    run :
+        (j room l : ℕ) (last : Last) →
+        r .places .position + j < readLimit (r .places) (r .used) →
+        j < room →
+        r .counts .handed + j + r .counts .overwritten ≤ r .counts .committed →
+        goOn room (suc l) r last ≡ befores (tabulate (suc j) event) (goOn (room - suc j) mostQuiet (out (suc j) r) (Told (eventAnswer j)))
+    run zero room l last lt some agree =
+        let most = limit-fits r (in-shape r whole) in
+        let n : room ≡ suc (room - 1) = omega arith in
+        ap (λ (k : ℕ). goOn k (suc l) r last) n
+        ∙ ap (λ (q : Ring). goOn (suc (room - 1)) (suc l) q last) (sym out-none)
+        ∙ one-more 0 (room - 1) l last (out-shape 0 (omega arith) agree) lt
+    run (suc j) room l last lt some agree =
+        let most = limit-fits r (in-shape r whole) in
+        let n : room - suc j ≡ suc (room - suc (suc j)) = omega arith in
+        run j room l last (omega arith) (omega arith) (omega arith)
+        ∙ ap (λ (k : ℕ). befores (tabulate (suc j) event) (goOn k mostQuiet (out (suc j) r) (Told (eventAnswer j)))) n
+        ∙ ap (befores (tabulate (suc j) event)) (one-more (suc j) (room - suc (suc j)) 7 (Told (eventAnswer j)) (out-shape (suc j) (omega arith) agree) lt)
+        ∙ befores-more (tabulate (suc j) event) (event (suc j)) (goOn (room - suc (suc j)) mostQuiet (out (suc (suc j)) r) (Told (eventAnswer (suc j))))
+
+-- the smaller of two is at most either, and not 0 if neither is
+smaller-is : (a b : ℕ) → 0 < a → 0 < b → (smaller a b ≤ a) × (smaller a b ≤ b) × (0 < smaller a b)
+smaller-is a b ha hb =
+    by-cond (λ (k : ℕ). (k ≤ a) × (k ≤ b) × (0 < k)) (ltb a b)
+    (λ e. let l = ltb-true a b e in (omega arith, omega arith, ha))
+    (λ e. let l = ltb-false a b e in (omega arith, omega arith, hb))
+
+-- ---- what a turn does
+
+pub record Turned (r : Ring) (room left : ℕ) (last : Last) (t : Turn) : Type 0 where
+  -- all of the shape but the counts, and these at most one off
+  pub shape : inShape (withHanded 0 (turned t r)) ≡ true
+  pub agree : t .handed + r .counts .overwritten ≤ r .counts .committed + 1
+  -- the Reads that it makes
+  pub rest :
+      goOn room left r last
+      ≡ befores (eventsFrom (r .numbers) (r .values) (t .from) (t .count)) (goOn (room - t .count) (t .left) (turned t r) (Told (t .answer)))
+  -- there is room for the Events, and their slots are the reader page's
+  pub count : t .count ≤ room
+  pub slots : r .places .position + t .count ≤ r .size .slots
+  -- it leaves less to do
+  pub less : (room - t .count) * 9 + t .left < room * 9 + left
+
+module _ (r : Ring) (whole : inShape r ≡ true) (room left : ℕ) (last : Last) (some : 0 < room) (more : 0 < left) where
+  abbrev shaped : InShape r
+  shaped = in-shape r whole
+
+  -- the turn of a rule with so many Events
+  abbrev with : Fetch → ℕ → Turn
+  with f count = turn f count left (r .size) (r .places) (r .counts) (r .reader) (r .words) (r .numbers) (r .values)
+
+  -- the ring after the last Read, from this position and with so many handed out
+  abbrev leaves : Fetch → ℕ → ℕ → Ring
+  leaves f position handed =
+      withReader (readPhase f (r .reader))
+      (withPlaces (readPlaces f (placesPosition position (r .places))) (withHanded handed (stored (readStores f (r .places .reader) (r .words)) r)))
+
+  -- a rule that is no Event's: one Read
+  other :
+      (f : Fetch) →
+      f ≡ planRead r →
+      leaves f (r .places .position) (r .counts .handed) ≡ fetched f r .ring →
+      readAnswer f (r .size) (placesBefore (r .places) 0) (r .numbers) (r .values) ≡ fetched f r .answer →
+      byKind (kindOf (fetched f r .answer))
+      (drained mostQuiet (room - 1) (fetched f r .ring) (Told (fetched f r .answer)))
+      (stop (fetched f r .ring) (Told (fetched f r .answer)))
+      (row (drained mostQuiet (room - 1)) (left - 1) (fetched f r .ring) (Told (fetched f r .answer)))
+      ≡ goOn (suc (room - 1)) (leftAfter f left) (fetched f r .ring) (Told (fetched f r .answer)) →
+      leftAfter f left < left →
+      inShape (withHanded 0 (turned (with f 0) r)) ≡ true →
+      Turned r room left last (with f 0)
+  other f plan ring answer kind fewer shape =
+      let n : room ≡ suc (room - 1) = omega arith in
+      let m : suc (room - 1) ≡ room - 0 = omega arith in
+      let l : left ≡ suc (left - 1) = omega arith in
+      let p : r .places .position ≡ r .places .position + 0 = omega arith in
+      let h : r .counts .handed ≡ r .counts .handed + 0 = omega arith in
+      let same : fetched f r .ring ≡ turned (with f 0) r =
+      sym ring ∙ ap (λ (k : ℕ). leaves f k (r .counts .handed)) p ∙ ap (leaves f (r .places .position + 0)) h in
+      let s = shaped in
+      record {
+        shape = shape;
+        agree = omega (arith, s);
+        rest =
+            ap (λ (k : ℕ). goOn k left r last) n
+            ∙ ap (λ (k : ℕ). goOn (suc (room - 1)) k r last) l
+            ∙ step r (room - 1) (left - 1) last whole plan
+            ∙ kind
+            ∙ ap (λ (k : ℕ). goOn k (leftAfter f left) (fetched f r .ring) (Told (fetched f r .answer))) m
+            ∙ ap (λ (q : Ring). goOn (room - 0) (leftAfter f left) q (Told (fetched f r .answer))) same
+            ∙ ap (λ (a : Answer). goOn (room - 0) (leftAfter f left) (turned (with f 0) r) (Told a)) (sym answer);
+        count = omega arith;
+        slots = omega (arith, s);
+        less = omega arith;
+      }
+
+  -- the shape where a Read leaves these pieces
+  kept :
+      (places : Places) (reader : Reader) (words used : List ℕ) →
+      placesFit places (r .size) ≡ true →
+      readerFits (reader .phase) (r .size) ≡ true →
+      wordsFit words (r .size .pages) ≡ true →
+      usedFit used (r .size .pages) (r .size .slots) ≡ true →
+      inShape (withReader reader (withPlaces places (withHanded 0 (withWords words (withUsed used r))))) ≡ true
+  kept places reader words used p ph w u =
+      let s = shaped in
+      reshaped r whole (countsHanded 0 (r .counts)) places reader words used (handed-fits r s 0 (omega (arith, s)))
+      (record { places = p; reader = ph; words = w; used = u })
+
+  -- the position stays
+  still : placesFit (placesBefore (r .places) 0) (r .size) ≡ true
+  still =
+      let s = shaped in
+      position-fits r s (r .places .position + 0) (omega (arith, s))
+
+  pages-true : (p h : PageNo) → p .0 ≤ r .size .pages → h .0 ≤ r .size .pages → pagesFit p h (r .size .pages) ≡ true
+  pages-true p h hp hh = every-each (pageTests p h (r .size .pages)) (le-leb (p .0) (r .size .pages) hp, (le-leb (h .0) (r .size .pages) hh, tt))
+
+  abbrev fit : Parts r
+  fit = parts r whole
+
+  -- j + 1 Events: the last of them is made at the position before it
+  events :
+      r .reader .phase ≡ phase.Idle →
+      (j : ℕ) →
+      r .places .position + suc j ≤ readLimit (r .places) (r .used) →
+      suc j ≤ room →
+      r .counts .handed + suc j + r .counts .overwritten ≤ r .counts .committed + 1 →
+      Turned r room left last (with Event (suc j))
+  events idle j here fits agree =
+      let s = shaped in
+      let most = limit-fits r s in
+      let l : left ≡ suc (left - 1) = omega arith in
+      let k : j ≡ suc j - 1 = omega arith in
+      let p : r .places .position + suc j ≡ r .places .position + (suc j - 1) + 1 = omega arith in
+      let then = placesPosition (r .places .position + (suc j - 1) + 1) (r .places) in
+      record {
+        shape = kept then (r .reader) (r .words) (r .used) (position-fits r s (r .places .position + (suc j - 1) + 1) (omega arith)) (fit .reader) (fit .words) (fit .used);
+        agree = agree;
+        rest =
+            ap (λ (n : ℕ). goOn room n r last) l
+            ∙ run r whole idle j room (left - 1) last (omega arith) fits (omega arith)
+            ∙ ap (λ (n : ℕ). befores (tabulate (suc j) (event r)) (goOn (room - suc j) mostQuiet (withPosition n (withHanded (r .counts .handed + suc j) r)) (Told (eventAnswer r j)))) p
+            ∙ ap (λ (n : ℕ). befores (tabulate (suc j) (event r)) (goOn (room - suc j) mostQuiet (turned (with Event (suc j)) r) (Told (eventAnswer r n)))) k;
+        count = fits;
+        slots = omega arith;
+        less = omega arith;
+      }
+
+  by-rule : (f : Fetch) → f ≡ planRead r → Planned r f → Turned r room left last (with f (ready f (r .places) (r .counts) (r .used) room))
+  by-rule Event plan h =
+      let s = shaped in
+      let here = readLimit (r .places) (r .used) - r .places .position in
+      let allowed = r .counts .committed + 1 - (r .counts .handed + r .counts .overwritten) in
+      let two = smaller-is here room (omega (arith, h .1)) some in
+      let three = smaller-is (smaller here room) allowed (two .2) (omega (arith, s)) in
+      let n = smaller (smaller here room) allowed in
+      let e : suc (n - 1) ≡ n = omega (arith, three .2) in
+      subst (λ (k : ℕ). Turned r room left last (with Event k)) e
+      (events (h .0) (n - 1) (omega (arith, two .0, three .0, h .1)) (omega (arith, two .1, three .0)) (omega (arith, three .1, s)))
+  by-rule Empty plan h =
+      other Empty plan refl refl refl more (kept (placesBefore (r .places) 0) (r .reader) (r .words) (r .used) still (fit .reader) (fit .words) (fit .used))
+  by-rule Busy plan h =
+      other Busy plan refl refl refl more (kept (placesBefore (r .places) 0) (r .reader) (r .words) (r .used) still (fit .reader) (fit .words) (fit .used))
+  by-rule (Find p q) plan h =
+      other (Find p q) plan refl refl refl (omega arith)
+      (kept (placesBefore (r .places) 0) (record { phase = phase.Found p q }) (r .words) (r .used) still (pages-true p q (h .0) (h .1)) (fit .words) (fit .used))
+  by-rule (Prepare p q) plan h =
+      let w = wordOf (pageIn (wordAt (r .words) q)) header in
+      let words = set (r .words) (r .places .reader .0) w in
+      other (Prepare p q) plan refl refl refl (omega arith)
+      (kept (placesBefore (r .places) 0) (record { phase = phase.Ready p q }) words (r .used) still (pages-true p q (h .0) (h .1))
+      (set-word (r .size .pages) (r .words) (r .places .reader .0) w (fit .words)
+      (word-fits (r .size .pages) (pageIn (wordAt (r .words) q)) header (next-fits r shaped (q .0) (h .1)) (omega arith)))
+      (fit .used))
+  by-rule (Swap p q) plan h =
+      let s = shaped in
+      let w = wordOf (r .places .reader) normal in
+      let words = set (r .words) (p .0) w in
+      other (Swap p q) plan refl refl refl (omega arith)
+      (kept (placesReader q (placesPosition 0 (r .places))) (record { phase = phase.Idle }) words (set (r .used) (r .places .reader .0) 0) (swap-fits r s q (h .1)) refl
+      (set-word (r .size .pages) (r .words) (p .0) w (fit .words) (word-fits (r .size .pages) (r .places .reader) normal (s .reader) (omega arith)))
+      (no-used (r .size .pages) (r .used) (r .size .slots) (r .places .reader .0) (fit .used)))
+  by-rule Miss plan h =
+      other Miss plan refl refl refl (omega arith)
+      (kept (placesBefore (r .places) 0) (record { phase = phase.Idle }) (r .words) (r .used) still refl (fit .words) (fit .used))
+
+  pub turn-drains : Turned r room left last (turnOf r left room)
+  turn-drains = by-rule (planRead r) refl (planned r shaped)
