@@ -1,1 +1,2 @@
+pub mod Soon
 pub mod Within
