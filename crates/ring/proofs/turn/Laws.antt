@@ -5,6 +5,7 @@ use mathlib.Core.Path.{_≡_, refl, sym, ap, _∙_, subst}
 use mathlib.Core.Bool.{Bool, true, false, cond}
 use mathlib.Core.List.{List, [], _∷_, _++_}
 use Prim.Native.Nat.{ℕ, zero, suc, _+_, _-_, _*_, _≤_, _<_}
+use native.Mathlib.Nat.{mul-le-mul-right}
 use native.Mathlib.Omega.{arith}
 use borrow.Author.Tests.{ltb-true, ltb-false, lt-ltb, le-leb}
 use lib.Dec.{ltb}
@@ -16,7 +17,7 @@ use Rattle.ring.specs.State.{page, reading, slotIndex, wordAt, placesRea
 use Rattle.ring.specs.Words.{pageIn, wordOf}
 use Rattle.ring.specs.Shape.{placeTests, placesFit, smallTests, agreeTests, countsFit, pageTests, pagesFit, readerFits, wordsFit, usedFit, inShape}
 use Rattle.ring.specs.Read.{readLimit, planRead, fetched, readRule}
-use Rattle.ring.specs.Pieces.{readAnswer, readPlaces, readPhase, readStores, stored}
+use Rattle.ring.specs.Pieces.{readAnswer, readPlaces, readPhase, readStores, stored, StoresFit}
 use Rattle.ring.specs.Drain.{eventNumber, kindOf, Drain, stop, before, byKind, row, drained, mostQuiet}
 use Rattle.ring.specs.Turn.{eventAt, eventsFrom, smaller, ready, placesBefore, leftAfter, turn, turnOf, turned, TurnFits}
 use Rattle.ring.specs.declared.state.PageNo.{PageNo}
@@ -33,7 +34,9 @@ use Rattle.ring.specs.declared.moves.Fetch.the-variants.{Event, Empty, B
 use Rattle.ring.specs.declared.moves.Turn.{Turn}
 use Rattle.ring.proofs.Lists.{by-cond, every-each, and-both}
 use Rattle.ring.proofs.shape.Laws.{InShape, in-shape}
-use Rattle.ring.proofs.read.Laws.{limit-fits}
+use Rattle.ring.proofs.state.Laws.{slotIndex-room}
+use Rattle.ring.proofs.pieces.Laws.{read-stores-fit}
+use Rattle.ring.proofs.read.Laws.{limit-fits, plan-fits}
 use Rattle.ring.proofs.read.Kept.{Planned, next-fits, planned, Parts, parts, reshaped, word-fits, set-word, no-used}
 
 -- ---- what is left of a drain
@@ -377,3 +380,41 @@ module _ (r : Ring) (whole : inShape r ≡ true) (room left : ℕ) (last : Last)
 
   pub turn-drains : Turned r room left last (turnOf r left room)
   turn-drains = by-rule (planRead r) refl (planned r shaped)
+
+  -- ---- what the code asks of the pieces
+
+  here : planRead r ≡ Event → r .places .position < readLimit (r .places) (r .used)
+  here e =
+      let p : Planned r Event = rw e at (planned r shaped) in
+      p .1
+
+  pub turn-fits : TurnFits left room (r .size) (r .places) (r .counts) (r .reader) (r .words) (r .used)
+  turn-fits =
+      let s = shaped in
+      let few = turn-drains .slots in
+      record {
+        some = more;
+        pages = s .pages-most;
+        page = omega (arith, s);
+        position = omega (arith, s);
+        phase = s .phase;
+        fetch = plan-fits r s;
+        events = record { page = omega (arith, s); agree = s .handed-overwritten; committed = s .committed; here = here };
+        few = omega (arith, s);
+        event = λ e.
+            let l = here e in
+            let most = limit-fits r s in
+            slotIndex-room (r .size) (r .places .reader) _ (omega (arith, s)) (s .slots-most) (omega (arith, s));
+      }
+
+  pub turn-stores : StoresFit (turnOf r left room .stores)
+  turn-stores =
+      let s = shaped in
+      read-stores-fit (r .places .reader) (r .words) (planRead r) (plan-fits r s) (omega (arith, s))
+
+  -- the slots told are within the arrays
+  pub turn-slots : turnOf r left room .from + turnOf r left room .count ≤ slotRoom
+  turn-slots =
+      let s = shaped in
+      let few = turn-drains .slots in
+      omega (arith, s, mul-le-mul-right {m = r .places .reader .0} {n = mostPages} (r .size .slots) (omega (arith, s)))
