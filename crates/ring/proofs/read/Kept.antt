@@ -16,6 +16,7 @@ use Rattle.ring.specs.Words.{pageIn, flagIn, wordOf, readerOnCommit, lin
 use Rattle.ring.specs.Shape.{placesFit, countsFit, pageTests, pagesFit, readerFits, wordFits, wordFitsAt, wordsFit, usedFitsAt, usedFit, layoutTests, layoutFits, ringFits, numbersFit, inShape}
 use Rattle.ring.specs.Read.{readLimit, findBy, planReader, planRead}
 use Rattle.ring.specs.declared.state.PageNo.{PageNo}
+use Rattle.ring.specs.declared.state.Size.{Size}
 use Rattle.ring.specs.declared.state.Places.{Places}
 use Rattle.ring.specs.declared.state.Counts.{Counts}
 use Rattle.ring.specs.declared.state.Reader.{Reader}
@@ -73,20 +74,20 @@ module _ (r : Ring) (s : InShape r) where
 -- ---- a ring in shape with other pieces that fit
 
 -- the tests of the pieces that a Read changes
-pub record Parts (r : Ring) : Type 0 where
-  pub places : placesFit (r .places) (r .size) ≡ true
-  pub reader : readerFits (r .reader .phase) (r .size) ≡ true
-  pub words : wordsFit (r .words) (r .size .pages) ≡ true
-  pub used : usedFit (r .used) (r .size .pages) (r .size .slots) ≡ true
+pub record Parts (size : Size) (places : Places) (reader : Reader) (words used : List ℕ) : Type 0 where
+  pub places-fit : placesFit places size ≡ true
+  pub reader-fits : readerFits (reader .phase) size ≡ true
+  pub words-fit : wordsFit words (size .pages) ≡ true
+  pub used-fit : usedFit used (size .pages) (size .slots) ≡ true
 
 module _ (r : Ring) (h : inShape r ≡ true) where
-  pub parts : Parts r
+  pub parts : Parts (r .size) (r .places) (r .reader) (r .words) (r .used)
   unfolding inShape layoutFits
   parts =
       let l = layoutFits (r .size) (r .places) (r .reader) (r .stack) (r .depth) (r .words) (r .used) in
       let whole = and-left (ringFits r) (numbersFit (r .numbers)) h in
       let e = each (layoutTests (r .size) (r .places) (r .reader) (r .stack) (r .depth) (r .words) (r .used)) (and-right (countsFit (r .counts)) l whole) in
-      record { places = e .1 .0; reader = e .1 .1 .0; words = e .1 .1 .1 .1 .0; used = e .1 .1 .1 .1 .1 .0 }
+      record { places-fit = e .1 .0; reader-fits = e .1 .1 .0; words-fit = e .1 .1 .1 .1 .0; used-fit = e .1 .1 .1 .1 .1 .0 }
 
   -- the pieces stored
   abbrev with : Counts → Places → Reader → List ℕ → List ℕ → Ring
@@ -95,7 +96,7 @@ module _ (r : Ring) (h : inShape r ≡ true) where
   pub reshaped :
       (counts : Counts) (places : Places) (reader : Reader) (words used : List ℕ) →
       countsFit counts ≡ true →
-      Parts (with counts places reader words used) →
+      Parts (r .size) places reader words used →
       inShape (with counts places reader words used) ≡ true
   unfolding inShape layoutFits
   reshaped counts places reader words used c p =
@@ -105,7 +106,7 @@ module _ (r : Ring) (h : inShape r ≡ true) where
       and-both
       (and-both c
       (every-each (layoutTests (r .size) places reader (r .stack) (r .depth) words used)
-      (e .0, (p .places, (p .reader, (e .1 .1 .1 .0, (p .words, (p .used, tt))))))))
+      (e .0, (p .places-fit, (p .reader-fits, (e .1 .1 .1 .0, (p .words-fit, (p .used-fit, tt))))))))
       (and-right (ringFits r) (numbersFit (r .numbers)) h)
 
 -- ---- the cells

@@ -65,28 +65,27 @@ laid-length r (a ∷ done) =
 
 -- ---- the room
 
--- one answer more laid after a front that is filled
-module _ (front old : List ℕ) (n : Numbers) (fits : length front + 3 ≤ length old) where
+-- elements stored after a front that is filled make a longer front
+module _ (front es old : List ℕ) (fits : length front + length es ≤ length old) where
   filled-length : length (over front old) ≡ length old
   filled-length = simp (length-append, length-drop) (omega arith)
 
-  rest-left : drop (length front + 3) (over front old) ≡ drop (length front + 3) old
-  rest-left = drop-append-add front (drop (length front) old) 3 ∙ drop-drop 3 (length front) old
+  rest-left : drop (length front + length es) (over front old) ≡ drop (length front + length es) old
+  rest-left = drop-append-add front (drop (length front) old) (length es) ∙ drop-drop (length es) (length front) old
 
-  -- the code's places are those of a run of stores
-  as-sets : laidAt (over front old) (length front) n ≡ sets (over front old) (length front) (three n)
-  as-sets =
-      let e1 : length front + 1 ≡ suc (length front) = omega arith in
-      let e2 : length front + 2 ≡ suc (suc (length front)) = omega arith in
-      rw (e1, e2)
+  pub sets-over : sets (over front old) (length front) es ≡ over (front ++ es) old
+  sets-over =
+      sets-eq es (over front old) (length front) (rw filled-length fits)
+      ∙ ap (λ (l : List ℕ). (l ++ es) ++ drop (length front + length es) (over front old)) (take-at front (drop (length front) old) (length front) refl)
+      ∙ ap (λ (l : List ℕ). (front ++ es) ++ l) rest-left
+      ∙ ap (λ (k : ℕ). (front ++ es) ++ drop k old) (sym (length-append front es))
 
-  lay-more : laidAt (over front old) (length front) n ≡ over (front ++ three n) old
-  lay-more =
-      as-sets
-      ∙ sets-eq (three n) (over front old) (length front) (rw filled-length fits)
-      ∙ ap (λ (l : List ℕ). (l ++ three n) ++ drop (length front + 3) (over front old)) (take-at front (drop (length front) old) (length front) refl)
-      ∙ ap (λ (l : List ℕ). (front ++ three n) ++ l) rest-left
-      ∙ ap (λ (k : ℕ). (front ++ three n) ++ drop k old) (sym (length-append front (three n)))
+-- one answer more
+lay-more : (front old : List ℕ) (n : Numbers) → length front + 3 ≤ length old → laidAt (over front old) (length front) n ≡ over (front ++ three n) old
+lay-more front old n fits =
+    let e1 : length front + 1 ≡ suc (length front) = omega arith in
+    let e2 : length front + 2 ≡ suc (suc (length front)) = omega arith in
+    rw (e1, e2) (sets-over front (three n) old fits)
 
 -- ---- a ring that is reached is in shape
 

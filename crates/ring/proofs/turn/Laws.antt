@@ -73,7 +73,7 @@ module _ (q : Ring) (n l : ℕ) (last : Last) where
 -- ---- the pieces that fit
 
 module _ (r : Ring) (s : InShape r) where
-  handed-fits : (x : ℕ) → x + r .counts .overwritten ≤ r .counts .committed → countsFit (countsHanded x (r .counts)) ≡ true
+  pub handed-fits : (x : ℕ) → x + r .counts .overwritten ≤ r .counts .committed → countsFit (countsHanded x (r .counts)) ≡ true
   handed-fits x le =
       let c = r .counts in
       and-both
@@ -173,7 +173,7 @@ module _ (r : Ring) where
         let p = parts r whole in
         reshaped r whole (countsHanded (r .counts .handed + j) (r .counts)) (placesPosition (r .places .position + j) (r .places)) (r .reader) (r .words) (r .used)
         (handed-fits r s (r .counts .handed + j) agree)
-        (record { places = position-fits r s (r .places .position + j) le; reader = p .reader; words = p .words; used = p .used })
+        (record { places-fit = position-fits r s (r .places .position + j) le; reader-fits = p .reader-fits; words-fit = p .words-fit; used-fit = p .used-fit })
 
     -- the Read after j Events is an Event
     out-plan : (j : ℕ) → r .places .position + j < readLimit (r .places) (r .used) → Event ≡ planRead (out j r)
@@ -298,7 +298,7 @@ module _ (r : Ring) (whole : inShape r ≡ true) (room left : ℕ) (last : Last)
   kept places reader words used p ph w u =
       let s = shaped in
       reshaped r whole (countsHanded 0 (r .counts)) places reader words used (handed-fits r s 0 (omega (arith, s)))
-      (record { places = p; reader = ph; words = w; used = u })
+      (record { places-fit = p; reader-fits = ph; words-fit = w; used-fit = u })
 
   -- the position stays
   still : placesFit (placesBefore (r .places) 0) (r .size) ≡ true
@@ -309,7 +309,7 @@ module _ (r : Ring) (whole : inShape r ≡ true) (room left : ℕ) (last : Last)
   pages-true : (p h : PageNo) → p .0 ≤ r .size .pages → h .0 ≤ r .size .pages → pagesFit p h (r .size .pages) ≡ true
   pages-true p h hp hh = every-each (pageTests p h (r .size .pages)) (le-leb (p .0) (r .size .pages) hp, (le-leb (h .0) (r .size .pages) hh, tt))
 
-  abbrev fit : Parts r
+  abbrev fit : Parts (r .size) (r .places) (r .reader) (r .words) (r .used)
   fit = parts r whole
 
   -- j + 1 Events: the last of them is made at the position before it
@@ -328,7 +328,7 @@ module _ (r : Ring) (whole : inShape r ≡ true) (room left : ℕ) (last : Last)
       let p : r .places .position + suc j ≡ r .places .position + (suc j - 1) + 1 = omega arith in
       let then = placesPosition (r .places .position + (suc j - 1) + 1) (r .places) in
       record {
-        shape = kept then (r .reader) (r .words) (r .used) (position-fits r s (r .places .position + (suc j - 1) + 1) (omega arith)) (fit .reader) (fit .words) (fit .used);
+        shape = kept then (r .reader) (r .words) (r .used) (position-fits r s (r .places .position + (suc j - 1) + 1) (omega arith)) (fit .reader-fits) (fit .words-fit) (fit .used-fit);
         agree = agree;
         rest =
             ap (λ (n : ℕ). goOn room n r last) l
@@ -352,31 +352,31 @@ module _ (r : Ring) (whole : inShape r ≡ true) (room left : ℕ) (last : Last)
       subst (λ (k : ℕ). Turned r room left last (with Event k)) e
       (events (h .0) (n - 1) (omega (arith, two .0, three .0, h .1)) (omega (arith, two .1, three .0)) (omega (arith, three .1, s)))
   by-rule Empty plan h =
-      other Empty plan refl refl refl more (kept (placesBefore (r .places) 0) (r .reader) (r .words) (r .used) still (fit .reader) (fit .words) (fit .used))
+      other Empty plan refl refl refl more (kept (placesBefore (r .places) 0) (r .reader) (r .words) (r .used) still (fit .reader-fits) (fit .words-fit) (fit .used-fit))
   by-rule Busy plan h =
-      other Busy plan refl refl refl more (kept (placesBefore (r .places) 0) (r .reader) (r .words) (r .used) still (fit .reader) (fit .words) (fit .used))
+      other Busy plan refl refl refl more (kept (placesBefore (r .places) 0) (r .reader) (r .words) (r .used) still (fit .reader-fits) (fit .words-fit) (fit .used-fit))
   by-rule (Find p q) plan h =
       other (Find p q) plan refl refl refl (omega arith)
-      (kept (placesBefore (r .places) 0) (record { phase = phase.Found p q }) (r .words) (r .used) still (pages-true p q (h .0) (h .1)) (fit .words) (fit .used))
+      (kept (placesBefore (r .places) 0) (record { phase = phase.Found p q }) (r .words) (r .used) still (pages-true p q (h .0) (h .1)) (fit .words-fit) (fit .used-fit))
   by-rule (Prepare p q) plan h =
       let w = wordOf (pageIn (wordAt (r .words) q)) header in
       let words = set (r .words) (r .places .reader .0) w in
       other (Prepare p q) plan refl refl refl (omega arith)
       (kept (placesBefore (r .places) 0) (record { phase = phase.Ready p q }) words (r .used) still (pages-true p q (h .0) (h .1))
-      (set-word (r .size .pages) (r .words) (r .places .reader .0) w (fit .words)
+      (set-word (r .size .pages) (r .words) (r .places .reader .0) w (fit .words-fit)
       (word-fits (r .size .pages) (pageIn (wordAt (r .words) q)) header (next-fits r shaped (q .0) (h .1)) (omega arith)))
-      (fit .used))
+      (fit .used-fit))
   by-rule (Swap p q) plan h =
       let s = shaped in
       let w = wordOf (r .places .reader) normal in
       let words = set (r .words) (p .0) w in
       other (Swap p q) plan refl refl refl (omega arith)
       (kept (placesReader q (placesPosition 0 (r .places))) (record { phase = phase.Idle }) words (set (r .used) (r .places .reader .0) 0) (swap-fits r s q (h .1)) refl
-      (set-word (r .size .pages) (r .words) (p .0) w (fit .words) (word-fits (r .size .pages) (r .places .reader) normal (s .reader) (omega arith)))
-      (no-used (r .size .pages) (r .used) (r .size .slots) (r .places .reader .0) (fit .used)))
+      (set-word (r .size .pages) (r .words) (p .0) w (fit .words-fit) (word-fits (r .size .pages) (r .places .reader) normal (s .reader) (omega arith)))
+      (no-used (r .size .pages) (r .used) (r .size .slots) (r .places .reader .0) (fit .used-fit)))
   by-rule Miss plan h =
       other Miss plan refl refl refl (omega arith)
-      (kept (placesBefore (r .places) 0) (record { phase = phase.Idle }) (r .words) (r .used) still refl (fit .words) (fit .used))
+      (kept (placesBefore (r .places) 0) (record { phase = phase.Idle }) (r .words) (r .used) still refl (fit .words-fit) (fit .used-fit))
 
   pub turn-drains : Turned r room left last (turnOf r left room)
   turn-drains = by-rule (planRead r) refl (planned r shaped)
