@@ -6,6 +6,7 @@ use mathlib.Core.Bool.{Bool, true, false, cond}
 use mathlib.Core.List.{List, [], _∷_}
 use Prim.Native.Nat.{ℕ, zero, suc, _+_, _*_, _≤_}
 use lib.ListN.{length}
+use denote.Ref.{RefT, ptr, now}
 use Rattle.ring.specs.Answers.{Outcome}
 use Rattle.ring.specs.Shape.{inShape}
 use Rattle.ring.specs.Read.{readRule}
@@ -18,6 +19,7 @@ use Rattle.ring.specs.declared.state.Ring.{Ring}
 use Rattle.ring.specs.declared.state.Last.{Last}
 use Rattle.ring.specs.declared.state.Last.the-variants.{None, Told}
 use Rattle.ring.specs.declared.state.Filled.{Filled}
+use Rattle.ring.specs.declared.drained.Drained.{Drained}
 
 -- ---- what an answer is to a drain
 
@@ -111,6 +113,10 @@ filled d = record { ring = d .ring; last = d .last; count = length (d .events) }
 -- the buffer: the events, and "the rest keeps its old contents"
 abbrev pub laidOut : Drain → List ℕ → List ℕ
 laidOut d room = over (d .events) room
+
+-- in one call: the ring, the last answer, and the part of the buffer that holds the events and no more. The part starts where the buffer starts
+abbrev pub handedBack : Drain → RefT (List ℕ) → Drained → Type 0
+handedBack d room r = (r .ring ≡ d .ring) × (r .last ≡ d .last) × (now (r .part) ≡ d .events) × (ptr (r .part) ≡ ptr room)
 
 -- ---- that eight in a row never end a drain, of a ring that is reached from a fresh one
 

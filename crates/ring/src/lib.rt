@@ -19,12 +19,14 @@ pub mod change; // what an action of any kind stores
 pub mod replay; // actions in bytes, made one by one in place
 pub mod turn; // what some Reads in a row store
 pub mod drain; // Reads in a row, their Events in a buffer that is lent
+pub mod drained; // the same, with the part that is filled handed back
 
 // what a caller names
 pub use actions::Coded;
 pub use actions::action_at;
 pub use codes::Numbers;
 pub use codes::answer_numbers;
+pub use drained::Drained;
 pub use state::Action;
 pub use state::Answer;
 pub use state::Filled;

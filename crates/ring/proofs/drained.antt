@@ -1,0 +1,2 @@
+-- What the proof of `drain` stands on.
+pub mod Again

@@ -1,0 +1,39 @@
+// Drain in one call: the part of the buffer that was filled is handed back, in a struct that keeps hold of it. In a file of its own: the borrow checker does
+// not cover a function that makes such a struct, so the proof of `drain` is by hand, and all that it calls is covered.
+ghost use mathlib.Core.Path.{_≡_};
+ghost use Prim.Native.Nat.{_≤_};
+ghost use lib.ListN.{length, take};
+ghost use Rattle.ring.specs.Drain.{drainRule, handedBack};
+use crate::state::Last;
+use crate::state::Ring;
+
+// What a drain gives back: the part of the lent buffer that it filled, the ring, and the last answer.
+pub struct Drained<'a> {
+    pub part: &'a mut [u64],
+    pub ring: Ring,
+    pub last: Last,
+}
+
+// The first `count` elements of a room.
+fn front<'a>(room: &'a mut [u64], count: usize) -> &'a mut [u64]
+    requires { ⌜ count ≤ length (now room) ⌝ }
+    ensures { λ r. ⌜ (now r ≡ take count (now (room .entry))) × (r .ptr ≡ room .entry .ptr) ⌝ }
+{
+    &mut room[..count]
+}
+
+impl Ring {
+    // What `drain_into` does, with the filled part handed back: the front of the room, which holds the Events and nothing else. The room goes into the
+    // part, so nothing is said here of the elements beyond it; that they keep their contents is said by `drain_into`.
+    pub fn drain<'a>(self, room: &'a mut [u64]) -> Drained<'a>
+        ensures { λ r. ⌜ handedBack (drainRule self (length (now (room .entry)))) (room .entry) r ⌝ }
+    {
+        let f = self.drain_into(room);
+        let part = front(room, f.count);
+        Drained {
+            part,
+            ring: f.ring,
+            last: f.last,
+        }
+    }
+}
