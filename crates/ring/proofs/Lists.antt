@@ -42,6 +42,11 @@ and-right false b h = absurd (true≢false (sym h))
 pub and-both : {a b : Bool} → a ≡ true → b ≡ true → a && b ≡ true
 and-both h e = rw h e
 
+pub and-three : (a b c : Bool) → (a && b) && c ≡ true → (a ≡ true) × (b ≡ true) × (c ≡ true)
+and-three a b c h =
+    let both = and-left (a && b) c h in
+    (and-left a b both, and-right a b both, and-right (a && b) c h)
+
 pub and-false : (a b : Bool) → a && b ≡ false → a ≡ true → b ≡ false
 and-false true b h e = h
 and-false false b h e = absurd (true≢false (sym e))

@@ -9,10 +9,10 @@ use lib.Dec.{ltb}
 use lib.ListN.{getD}
 use Rattle.ring.specs.Limits.{mostPages, mostSlots, mostCount}
 use Rattle.ring.specs.Lists.{tabulate}
-use Rattle.ring.specs.State.{reading, placesPosition, withPlaces, withHanded, withReader, slotIndex}
+use Rattle.ring.specs.State.{reading, placesPosition, withPlaces, withHanded, withReader, withWords, withUsed, slotIndex}
 use Rattle.ring.specs.Shape.{readerFits}
 use Rattle.ring.specs.Read.{readLimit, planReader}
-use Rattle.ring.specs.Pieces.{readAnswer, readPlaces, readPhase, readStores, stored, FetchFits, EventFits}
+use Rattle.ring.specs.Pieces.{readAnswer, readPlaces, readPhase, readStores, wordsStored, usedStored, FetchFits, EventFits}
 use Rattle.ring.specs.Drain.{eventNumber, mostQuiet}
 use Rattle.ring.specs.declared.state.Size.{Size}
 use Rattle.ring.specs.declared.state.Places.{Places}
@@ -93,9 +93,12 @@ turnBy left room size places counts reader words used numbers values =
 abbrev pub turnOf : Ring → ℕ → ℕ → Turn
 turnOf r left room = turnBy left room (r .size) (r .places) (r .counts) (r .reader) (r .words) (r .used) (r .numbers) (r .values)
 
--- the pieces stored
+-- the pieces stored; a Read stores to words and used alone
 abbrev pub turned : Turn → Ring → Ring
-turned t r = withReader (t .reader) (withPlaces (t .places) (withHanded (t .handed) (stored (t .stores) r)))
+turned t r =
+    withReader (t .reader)
+    (withPlaces (t .places)
+    (withHanded (t .handed) (withWords (wordsStored (t .stores) (r .words)) (withUsed (usedStored (t .stores) (r .used)) r))))
 
 -- ---- what the code asks of the pieces: a ring in shape has it (`turn-fits`)
 

@@ -17,7 +17,7 @@ use Rattle.ring.specs.State.{page, reading, slotIndex, wordAt, placesRea
 use Rattle.ring.specs.Words.{pageIn, wordOf}
 use Rattle.ring.specs.Shape.{placeTests, placesFit, smallTests, agreeTests, countsFit, pageTests, pagesFit, readerFits, wordsFit, usedFit, inShape}
 use Rattle.ring.specs.Read.{readLimit, planRead, fetched, readRule}
-use Rattle.ring.specs.Pieces.{readAnswer, readPlaces, readPhase, readStores, stored, StoresFit}
+use Rattle.ring.specs.Pieces.{readAnswer, readPlaces, readPhase, readStores, wordsStored, usedStored, StoresFit}
 use Rattle.ring.specs.Drain.{eventNumber, kindOf, Drain, stop, before, byKind, row, drained, mostQuiet}
 use Rattle.ring.specs.Turn.{eventAt, eventsFrom, smaller, ready, placesBefore, leftAfter, turn, turnOf, turned, TurnFits}
 use Rattle.ring.specs.declared.state.PageNo.{PageNo}
@@ -245,8 +245,10 @@ module _ (r : Ring) (whole : inShape r ≡ true) (room left : ℕ) (last : Last)
   -- the ring after the last Read, from this position and with so many handed out
   abbrev leaves : Fetch → ℕ → ℕ → Ring
   leaves f position handed =
+      let stores = readStores f (r .places .reader) (r .words) in
       withReader (readPhase f (r .reader))
-      (withPlaces (readPlaces f (placesPosition position (r .places))) (withHanded handed (stored (readStores f (r .places .reader) (r .words)) r)))
+      (withPlaces (readPlaces f (placesPosition position (r .places)))
+      (withHanded handed (withWords (wordsStored stores (r .words)) (withUsed (usedStored stores (r .used)) r))))
 
   -- a rule that is no Event's: one Read
   other :
