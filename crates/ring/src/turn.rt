@@ -30,13 +30,7 @@ fn smaller(a: usize, b: usize) -> usize
 
 // How many Events come one after the other: as many as stand on the reader page, as there is room for, and as the counts allow. One more than
 // `committed` can hold is allowed, and it is the last: it leaves the ring out of shape.
-fn events_ready(
-    f: Fetch,
-    places: Places,
-    counts: Counts,
-    used: &[u32; 17],
-    room: usize,
-) -> usize
+fn events_ready(f: Fetch, places: Places, counts: Counts, used: &[u32; 17], room: usize) -> usize
     requires { ⌜ ReadyFits f places counts (now used) ⌝ }
     ensures { λ r. ⌜ r ≡ ready f places counts (now (used .entry)) room ⌝ }
 {

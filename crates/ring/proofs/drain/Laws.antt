@@ -185,8 +185,7 @@ module _ {r0 : Ring} {room0 : List ℕ} {r : Ring} {room : List ℕ} {at left : 
       (filledBy r (lastAfter (a && b) last) at ≡ filled (whole r0 room0)) × (room ≡ laidOut (whole r0 room0) room0)
   finish a b ok ea eb eo h =
       let all : whole r0 room0 ≡ ended (p .events) r (lastAfter (a && b) last) =
-      p .rest ∙ ap (befores (p .events)) (ends a b ok ea eb eo h) ∙ ap (λ (es : List ℕ). ended es r (lastAfter (a && b) last)) (append-nil (p .events)) in
-      (
+      p .rest ∙ ap (befores (p .events)) (ends a b ok ea eb eo h) ∙ ap (λ (es : List ℕ). ended es r (lastAfter (a && b) last)) (append-nil (p .events)) in (
         ap (filledBy r (lastAfter (a && b) last)) (p .count) ∙ ap filled (sym all),
         p .laid ∙ ap (λ (d : Drain). laidOut d room0) (sym all),
       )

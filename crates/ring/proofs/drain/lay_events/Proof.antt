@@ -39,11 +39,10 @@ loop-again : tie.Need-loop-again Inv-loop μ-loop
 loop-again c =
     let start = c .before .before .before .before .before .before .args in
     let l = c .before .before .before .before .loop in
-    let f = eventAt (start .numbers .now) (start .values .now) (start .from) in
-    (
+    let f = eventAt (start .numbers .now) (start .values .now) (start .from) in (
       omega arith,
       rw (l .inv .1, c .event-number .ensures, add-one)
-      (sym (sets-more (tabulate (l .i) f) (start .room .now) (start .at) (f (l .i)) (l .i) (sym (length-tabulate f (l .i))))),
+          (sym (sets-more (tabulate (l .i) f) (start .room .now) (start .at) (f (l .i)) (l .i) (sym (length-tabulate f (l .i))))),
     )
 
 same-length : tie.Need-same-length Inv-loop μ-loop

@@ -16,8 +16,12 @@ sub-here c =
 
 returns : tie.Need-returns
 returns c =
-    rw (c .smaller2 .ensures, c .before .smaller .ensures, c .before .before .before .before .before .read-limit .ensures,
-    c .before .before .before .before .before .before .enum-told .given .1)
+    rw (
+      c .smaller2 .ensures,
+      c .before .smaller .ensures,
+      c .before .before .before .before .before .read-limit .ensures,
+      c .before .before .before .before .before .before .enum-told .given .1,
+    )
 
 -- every rule but that of an Event
 returns-2 : tie.Need-returns-2

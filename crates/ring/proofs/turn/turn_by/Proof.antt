@@ -38,12 +38,17 @@ read-stores-requires c κs =
 
 returns : tie.Need-returns
 returns c =
-    rw
-    (c .read-stores .ensures, c .before .read-phase .ensures, c .before .before .read-places .ensures, c .before .before .before .before .left-after .ensures,
-    c .before .before .before .before .before .read-answer .ensures, c .before .before .before .before .before .before .places-before .ensures,
-    c .before .before .before .before .before .before .before .slot-index .ensures,
-    c .before .before .before .before .before .before .before .before .events-ready .ensures,
-    c .before .before .before .before .before .before .before .before .before .plan-reader .ensures)
+    rw (
+      c .read-stores .ensures,
+      c .before .read-phase .ensures,
+      c .before .before .read-places .ensures,
+      c .before .before .before .before .left-after .ensures,
+      c .before .before .before .before .before .read-answer .ensures,
+      c .before .before .before .before .before .before .places-before .ensures,
+      c .before .before .before .before .before .before .before .slot-index .ensures,
+      c .before .before .before .before .before .before .before .before .events-ready .ensures,
+      c .before .before .before .before .before .before .before .before .before .plan-reader .ensures,
+    )
 
 pub turn-by-spec : {M : Type 1} → statement M
 turn-by-spec =

@@ -1,7 +1,7 @@
 -- `Ring::drain_into` is the rule: the Reads of a ring in shape, and the refusal out of it. The code tests all of the shape but the slots' numbers, and those are 32 bits
 -- wide. Assumes nothing.
 use mathlib.Core.Path.{_≡_, refl, sym, _∙_}
-use mathlib.Core.Bool.{_&&_}
+use mathlib.Core.Bool.{true, _&&_}
 use Prim.Native.Nat.{ℕ}
 use borrow.Author.Needs.{needs}
 use borrow.Author.Tests.{not-true, not-false}
@@ -9,7 +9,6 @@ use mir.Syntax.{w32}
 use mir.Val.{Fits}
 use lib.ListN.{getD}
 use Rattle.ring.specs.Shape.{inShape}
-use Rattle.ring.specs.declared.state.Ring.{Ring}
 use Rattle.ring.proofs.shape.Laws.{tested-inShape}
 use Rattle.ring.proofs.state.Ring.drain_into.Statement.{statement}
 use Rattle.ring.proofs.state.Ring.drain_into.Tie as tie
@@ -17,14 +16,18 @@ use Rattle.ring.proofs.state.Ring.drain_into.Tie as tie
 narrow : (c : tie.Start) (i : ℕ) → Fits w32 (getD (c .args .t1 .numbers) i 0)
 narrow c i = search needs
 
-returns : tie.Need-returns
-returns c = ?
+-- the code's test is the definition's
+fitting : (c : tie.After-layout-fits) → c .before .before .before .before .counts-fit .result && c .layout-fits .result ≡ inShape (c .before .before .before .before .before .before .before .before .before .before .before .args .t1)
+fitting c = tested-inShape (c .before .before .before .before .before .before .before .before .before .before .before .args .t1) (c .before .before .before .before .counts-fit .ensures) (c .layout-fits .ensures) (narrow (c .before .before .before .before .before .before .before .before .before .before .before))
 
-drain-shaped-requires : tie.Need-drain-shaped-requires
-drain-shaped-requires c κs = ?
+returns : tie.Need-returns
+returns c = rw (sym (fitting (c .before)) ∙ not-true _ (c .if1 .taken)) (refl, refl)
+
+shaped : (c : tie.Else1) → inShape (c .before .before .before .before .before .before .before .before .before .before .before .before .args .t1) ≡ true
+shaped c = sym (fitting (c .before)) ∙ not-false _ (c .if1 .left)
 
 returns-2 : tie.Need-returns-2
-returns-2 c = ?
+returns-2 c = rw (shaped (c .before .before .before .before)) (c .before .before .drain-shaped .ensures)
 
 pub drain-into-spec : {M : Type 1} → statement M
 drain-into-spec =
@@ -33,6 +36,6 @@ drain-into-spec =
     (λ c κs. search needs)
     (λ c κs. search needs)
     returns
-    drain-shaped-requires
+    (λ c κs. shaped (c .before))
     (λ c. search needs)
     returns-2)
