@@ -384,7 +384,8 @@ impl Evening {
         self.lasts.count(drained.last);
         let (part, rest) = buffer.split_at(drained.filled);
         for &element in part {
-            self.in_order += u64::from(element == self.stored << 32 | self.stored);
+            let value = 3 * self.stored + 7;
+            self.in_order += u64::from(element == self.stored << 32 | value);
             self.stored += 1;
         }
         self.kept += rest.iter().filter(|&&element| element == OLD).count() as u64;
@@ -415,14 +416,15 @@ impl Evening {
     }
 }
 
-/// The same readings as an evening, drained after every fourth one and at the end.
+/// As many readings, number i with value 3 * i + 7, drained after every fourth one and at
+/// the end.
 fn drained_evening(out: &mut String) -> Result<(), String> {
     let (mut ring, answer) = Ring::fresh(16, 16, 1);
     act_line(out, &text::fresh(16, 16, 1), answer, Answer::Accepted)?;
     let mut tally = Tally::default();
     let mut evening = Evening::default();
     for i in 0..READINGS {
-        tally.count(ring.act(Begin(i)));
+        tally.count(ring.act(Begin(3 * i + 7)));
         until_written(&mut ring, &mut tally)?;
         if i % 4 == 3 {
             let turn = i as usize / 4;
