@@ -7,10 +7,10 @@ use ring::Step;
 use std::num::wrapping_add_u64;
 use text::Tally;
 
-const READINGS: u32 = 65537;
+pub(crate) const READINGS: u32 = 65537;
 
 // A proved loop has to end; no reading here takes as many actions as this.
-const MOST_ACTIONS: u32 = 1000;
+pub(crate) const MOST_ACTIONS: u32 = 1000;
 
 // Whether the writer's work has ended.
 fn is_written(answer: Answer) -> bool {
@@ -37,7 +37,7 @@ fn is_event_of(answer: Answer, i: u32) -> bool {
 }
 
 // Writes until the writer's work has ended.
-fn write_out(ring: Ring, tally: &mut Tally) -> Ring {
+pub(crate) fn write_out(ring: Ring, tally: &mut Tally) -> Ring {
     let mut made = ring.act(Action::Write);
     let mut answer = made.answer;
     text::count_answer(tally, answer);
