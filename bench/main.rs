@@ -1,6 +1,6 @@
-//! Times an action of the proved ring against the same work in Rust, in one run: a loop of actions by value, and the replay of a trace. The rows take
-//! turns in each round, so that a slow moment of the machine falls on all of them. Prints the least and the median of the rounds, in nanoseconds an
-//! action, and each row's ratio to Rust with the test of shape.
+//! Times an action of the proved ring against the same work in Rust, in one run: a loop of actions by value, the replay of a trace, and the drain of a
+//! ring, full and with one reading waiting. The rows take turns in each round, so that a slow moment of the machine falls on all of them. Prints the
+//! least and the median of the rounds, in nanoseconds an action, and each row's ratio to Rust with the test of shape.
 
 #[path = "../oracle/src/ring.rs"]
 #[allow(dead_code)]
@@ -24,12 +24,24 @@ extern "C" {
     fn bench_by_act(actions: u32) -> u64;
     /// The same crate: the replay of a trace, with three numbers for each answer; how many actions it made.
     fn bench_replay(bytes: *const u8, length: usize, answers: *mut u64, room: usize) -> usize;
+    /// The same crate: the ring that a trace leaves, drained so many times, each time as the trace left it; how many elements a drain filled.
+    fn bench_drain(
+        bytes: *const u8,
+        length: usize,
+        answers: *mut u64,
+        for_answers: usize,
+        room: *mut u64,
+        for_events: usize,
+        turns: u32,
+    ) -> usize;
 }
 
 const ACTIONS: u32 = 2_000_000;
 const ROUNDS: usize = 15;
 /// How often the trace is replayed in a round.
 const TURNS: usize = 60;
+/// How many elements a drain is lent: more than a full ring has readings.
+const ROOM: usize = 300;
 
 /// A Write while a writer is at work, then Reads until nothing waits, then a Begin.
 fn next_action(ring: &Ring, value: u32) -> Action {
@@ -104,6 +116,71 @@ fn replay_rattle(bytes: &[u8], answers: &mut [u64]) -> usize {
     unsafe { bench_replay(bytes.as_ptr(), bytes.len(), answers.as_mut_ptr(), answers.len()) }
 }
 
+/// A trace that leaves readings waiting: so many of them, or as many as the ring has room for.
+fn waiting_trace(readings: u32) -> Vec<u8> {
+    let mut bytes = b"PTR\x01\x00\x10\x10\x01".to_vec();
+    let (mut ring, _) = Ring::fresh(16, 16, 1);
+    for value in 0..readings {
+        ring.act(Action::Begin(value));
+        bytes.push(1);
+        bytes.extend(value.to_le_bytes());
+        while ring.depth > 0 {
+            if ring.act(Action::Write) == Answer::Dropped {
+                bytes.truncate(bytes.len() - 5);
+                return bytes;
+            }
+            bytes.push(2);
+        }
+    }
+    bytes
+}
+
+/// The ring that a trace leaves.
+fn ring_of(bytes: &[u8]) -> Ring {
+    let (mut ring, _) = Ring::fresh(16, 16, 1);
+    let mut at = 8;
+    while at < bytes.len() {
+        if bytes[at] == 1 {
+            let value = [bytes[at + 1], bytes[at + 2], bytes[at + 3], bytes[at + 4]];
+            ring.act(Action::Begin(u32::from_le_bytes(value)));
+            at += 5;
+        } else {
+            ring.act(Action::Write);
+            at += 1;
+        }
+    }
+    ring
+}
+
+/// A loop of Reads until the room is full or there is no more to be had; how many Events it stored, and how many Reads it made.
+#[inline]
+fn read_out(ring: &mut Ring, room: &mut [u64], act: impl Fn(&mut Ring, Action) -> Answer) -> (usize, usize) {
+    let (mut filled, mut reads) = (0, 0);
+    while filled < room.len() {
+        reads += 1;
+        match act(ring, Action::Read) {
+            Answer::Event(number, value) => {
+                room[filled] = u64::from(number) << 32 | u64::from(value);
+                filled += 1;
+            }
+            Answer::Empty | Answer::Busy | Answer::Refused(_) => break,
+            _ => (),
+        }
+    }
+    (filled, reads)
+}
+
+/// The Rust loop on a copy of the ring, so many times.
+fn drain_rust(ring: &Ring, room: &mut [u64], turns: u32, act: impl Fn(&mut Ring, Action) -> Answer + Copy) -> usize {
+    let mut filled = 0;
+    for _ in 0..turns {
+        let mut copy = black_box(ring).clone();
+        filled = read_out(&mut copy, black_box(room), act).0;
+        black_box(&copy);
+    }
+    filled
+}
+
 /// What a row does, with what it must come to, and how many actions that is.
 struct Row {
     name: &'static str,
@@ -135,6 +212,53 @@ fn replay_row(name: &'static str, run: fn(&[u8], &mut [u64]) -> usize) -> Row {
         }
         (answers.clone(), made)
     })
+}
+
+/// The rows of a drain: the buffer, and how many Reads that is.
+fn drain_rows(readings: u32, turns: u32) -> Vec<Row> {
+    let bytes = waiting_trace(readings);
+    let ring = ring_of(&bytes);
+    let (_, reads) = read_out(&mut ring.clone(), &mut vec![0; ROOM], Ring::act);
+    let made = reads * turns as usize;
+    let drained = |name, drain: Box<dyn Fn(&mut [u64]) -> usize>| {
+        row(name, move || {
+            let mut room = vec![u64::MAX; ROOM];
+            let filled = drain(&mut room);
+            room.push(filled as u64);
+            (room, made)
+        })
+    };
+    let (untested, tested) = (ring.clone(), ring);
+    vec![
+        drained(
+            "Rust, in place, no test of shape",
+            Box::new(move |room| drain_rust(&untested, room, turns, Ring::act_in_shape)),
+        ),
+        drained(
+            "Rust, in place, shape tested",
+            Box::new(move |room| drain_rust(&tested, room, turns, Ring::act)),
+        ),
+        drained(
+            "Rattle, Ring::drain_into",
+            Box::new(move |room| drain_rattle(&bytes, room, turns)),
+        ),
+    ]
+}
+
+fn drain_rattle(bytes: &[u8], room: &mut [u64], turns: u32) -> usize {
+    let mut answers = vec![0; 3 * bytes.len()];
+    // SAFETY: a function of three slices and a number, proved for every content of them; no two overlap.
+    unsafe {
+        bench_drain(
+            bytes.as_ptr(),
+            bytes.len(),
+            answers.as_mut_ptr(),
+            answers.len(),
+            room.as_mut_ptr(),
+            room.len(),
+            turns,
+        )
+    }
 }
 
 /// A round: every row in turn; refused where they did not come to the same.
@@ -201,8 +325,10 @@ fn run() -> Result<(), String> {
             replay_row("Rattle, trace::replay", replay_rattle),
         ],
     )?;
+    let full = timed("Drain of a full ring", drain_rows(u32::MAX, 20_000))?;
+    let single = timed("Drain of one reading", drain_rows(1, 400_000))?;
     io::stdout()
-        .write_all(format!("{actions}\n{replays}").as_bytes())
+        .write_all(format!("{actions}\n{replays}\n{full}\n{single}").as_bytes())
         .map_err(|error| format!("standard output: {error}"))
 }
 

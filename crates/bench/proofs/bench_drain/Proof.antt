@@ -1,0 +1,59 @@
+-- `bench_drain` drains the ring that the trace leaves: each further drain gives what the first gave, and leaves the room as it is. Assumes nothing.
+use mathlib.Core.Path.{_≡_, refl, sym, ap, _∙_}
+use Prim.Native.Nat.{ℕ, _-_, _<_}
+use native.Mathlib.Omega.{arith}
+use borrow.Author.Needs.{needs}
+use lib.ListN.{length}
+use Rattle.ring.specs.Drain.{drainRule, laidOut}
+use Rattle.ring.specs.declared.state.Ring.{Ring}
+use Rattle.ring.specs.declared.state.Filled.{Filled}
+use Rattle.ring.specs.declared.state.Replay.{Replay}
+use Rattle.bench.proofs.Drain.{again}
+use Rattle.bench.proofs.bench_drain.Statement.{statement}
+use Rattle.bench.proofs.bench_drain.Tie as tie
+
+abbrev Inv-loop : tie.InvT-loop
+Inv-loop bytes answers room₀ turns ring made₀ i₀ room made i = (room ≡ room₀) × (made ≡ made₀)
+
+abbrev μ-loop : tie.MeasureT-loop
+μ-loop bytes answers room₀ turns ring made₀ i₀ room made i = turns - i
+
+loop-again : tie.Need-loop-again Inv-loop μ-loop
+loop-again c =
+    let first = c .before .before .before .before .before .before .before .before .drain-into in
+    let start = c .before .before .before .before .before .before .before .before .before .before .before .before .before .before .before .before .before .before .args .room .now in
+    let l = c .before .before .before .before .before .loop in
+    let same = again (c .before .before .before .before .before .before .before .before .before .before .before .before .before .replay .result .ring) start {made = l .made} (l .inv .1 ∙ first .ensures .0) (l .inv .0 ∙ first .ensures .1) (ap length (l .inv .0) ∙ first .kept .1 .0)
+    (c .before .before .drain-into2 .ensures .0) (c .before .before .drain-into2 .ensures .1) in
+    (same .0 ∙ l .inv .0, same .1 ∙ l .inv .1)
+
+same-length-2 : tie.Need-same-length-2 Inv-loop μ-loop
+same-length-2 c = ap length (c .before .loop .inv .0) ∙ c .before .before .before .before .drain-into .kept .1 .0
+
+returns : tie.Need-returns Inv-loop μ-loop
+returns c =
+    let first = c .before .before .before .before .drain-into in
+    let l = c .before .loop in
+    let start = c .before .before .before .before .before .before .before .before .before .before .before .before .before .before .args .room .now in
+    let ring = c .before .before .before .before .before .before .before .before .before .replay .ensures .0 in
+    (
+      ap (λ (f : Filled). f .count) (l .inv .1 ∙ first .ensures .0) ∙ ap (λ (r : Replay). length (drainRule (r .ring) (length start) .events)) ring,
+      (c .before .before .before .before .before .before .before .before .before .replay .ensures .1, l .inv .0 ∙ first .ensures .1 ∙ ap (λ (r : Replay). laidOut (drainRule (r .ring) (length start)) start) ring),
+    )
+
+pub bench-drain-spec : {M : Type 1} → statement M
+bench-drain-spec =
+    tie.close
+    (tie.spec
+    Inv-loop
+    μ-loop
+    (λ c κs. search needs)
+    (λ c κs. search needs)
+    (λ c. (refl, refl))
+    (λ c κs. search needs)
+    (λ c. omega (arith, c .before .before .before .before .before .before .before .before .before .before .before .before .before .before .before .before .before .before .fits .turns))
+    (λ c. search needs)
+    loop-again
+    (λ c. search needs)
+    same-length-2
+    returns)
