@@ -63,7 +63,8 @@ fn left_after(f: Fetch, left: u32) -> u32
 {
     match f {
         Fetch::Event => MOST_QUIET,
-        Fetch::Empty | Fetch::Busy => 0,
+        Fetch::Empty => 0,
+        Fetch::Busy => 0,
         _ => left - 1,
     }
 }

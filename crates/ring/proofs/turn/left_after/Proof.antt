@@ -9,19 +9,23 @@ use Rattle.ring.proofs.moves.Laws.{fetch-of-numbers}
 use Rattle.ring.proofs.turn.left_after.Statement.{statement}
 use Rattle.ring.proofs.turn.left_after.Tie as tie
 
--- Empty and Busy
-returns-2 : tie.Need-returns-2
-returns-2 c =
-    let a = c .before .args in
-    fetch-of-numbers (λ (f : Fetch). 0 ≡ leftAfter f (a .left)) (1 ∷ 2 ∷ []) (a .f) (refl, (refl, tt)) (c .match .keys2)
-
 -- the quiet ones
-returns-3 : tie.Need-returns-3
-returns-3 c =
+returns-4 : tie.Need-returns-4
+returns-4 c =
     let a = c .before .args in
     fetch-of-numbers (λ (f : Fetch). a .left - 1 ≡ leftAfter f (a .left)) (3 ∷ 4 ∷ 5 ∷ 6 ∷ []) (a .f)
     ((λ p h. refl), ((λ p h. refl), ((λ p h. refl), (refl, tt))))
-    (c .match .keys3)
+    (c .match .keys4)
 
 pub left-after-spec : {M : Type 1} → statement M
-left-after-spec = tie.close (tie.spec (λ c. search needs) (λ c. search needs) (λ c. search needs) returns-2 returns-3)
+left-after-spec =
+    tie.close
+    (tie.spec
+    (λ c. search needs)
+    (λ c. search needs)
+    (λ c. search needs)
+    (λ c. search needs)
+    (λ c. search needs)
+    (λ c. search needs)
+    (λ c. search needs)
+    returns-4)
