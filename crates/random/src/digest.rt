@@ -2,6 +2,7 @@
 ghost use mathlib.Core.Path.{_≡_};
 ghost use Prim.Native.Nat.{_+_, _*_, _%_};
 use ring::Answer;
+use ring::Last;
 use ring::PageNo;
 use ring::Receipt;
 use ring::Ring;
@@ -47,6 +48,26 @@ pub(crate) fn fold_answer(h: u32, answer: Answer) -> u32 {
     let first = (numbers.first % TWO_32) as u32;
     let second = (numbers.second % TWO_32) as u32;
     fold_three(h, numbers.code, first, second)
+}
+
+// The last answer of a drain.
+pub(crate) fn fold_last(h: u32, last: Last) -> u32 {
+    match last {
+        Last::None => fold(h, 0),
+        Last::Told(answer) => fold_answer(fold(h, 1), answer),
+    }
+}
+
+// How many elements a drain filled, and all of the buffer, of which a part was lent.
+pub(crate) fn fold_buffer(h: u32, count: usize, buffer: &[u64; 40]) -> u32 {
+    // the count is at most 40: no more are lent
+    let mut d = fold(h, ((count as u64) % TWO_32) as u32);
+    let mut j: usize = 0;
+    while j < 40 {
+        d = fold_count(d, buffer[j]);
+        j = j + 1;
+    }
+    d
 }
 
 pub(crate) fn fold_receipt(h: u32, r: Receipt) -> u32 {

@@ -11,11 +11,11 @@ use ring::Action;
 use ring::Ring;
 use text::Tally;
 
-const SHAPE_GROUPS: u32 = 10;
+pub(crate) const SHAPE_GROUPS: u32 = 10;
 
-const IN_SHAPE: u32 = 4000;
+pub(crate) const IN_SHAPE: u32 = 4000;
 
-const BREAKS: u32 = 31;
+pub(crate) const BREAKS: u32 = 31;
 
 const OUT_OF_SHAPE: u32 = 1000;
 
@@ -30,16 +30,22 @@ fn fold_action(h: u32, ring: Ring, action: Action, tally: &mut Tally) -> u32 {
     fold_receipt(d, after.receipt())
 }
 
-// A state, in shape where `kind` is 0 and else with that break; its receipt, and then each action on the state itself.
+// A state, in shape where `kind` is 0 and else with that break.
+pub(crate) fn draw_state(s: &mut u32, kind: u32) -> Ring {
+    let size = draw_size(s);
+    let ring = draw_ring(s, size);
+    if kind == 0 {
+        return ring;
+    }
+    break_ring(s, kind, size.pages, size.slots, ring)
+}
+
+// A state's receipt, and then each action on the state itself.
 fn run_state(number: u32, kind: u32, h: u32, tally: &mut Tally) -> u32
     requires { ⌜ number < 71000 ⌝ }
 {
     let mut s = generator(FIRST_SEED + number);
-    let size = draw_size(&mut s);
-    let mut ring = draw_ring(&mut s, size);
-    if kind > 0 {
-        ring = break_ring(&mut s, kind, size.pages, size.slots, ring);
-    }
+    let ring = draw_state(&mut s, kind);
     let value = any(&mut s);
     let mut d = fold_receipt(h, ring.receipt());
     d = fold_action(d, ring, Action::Begin(value), tally);
@@ -61,7 +67,7 @@ fn run_group(first: u32, states: u32, kind: u32, tally: &mut Tally) -> u32
 }
 
 // Group 0 is the first.
-fn in_shape_line(group: u32, digest: u32) {
+pub(crate) fn in_shape_line(group: u32, digest: u32) {
     text::digest_line(b"in shape ", 1 + (group as u64), b"", digest);
 }
 
@@ -74,7 +80,7 @@ fn in_shape(tally: &mut Tally) {
     }
 }
 
-fn break_line(kind: u32, digest: u32) {
+pub(crate) fn break_line(kind: u32, digest: u32) {
     text::digest_line(b"break ", kind as u64, b"", digest);
 }
 

@@ -18,7 +18,7 @@ const LISTS: u32 = 42;
 const GROUP: u32 = 672;
 
 // N from 2 to 16, in two modes.
-const GROUPS: u32 = 30;
+pub(crate) const GROUPS: u32 = 30;
 
 // Of a hundred actions: below which draw a Begin is made, and below which a Write.
 struct Shares {
@@ -87,7 +87,7 @@ fn run_group(group: u32, tally: &mut Tally) -> u32
     h
 }
 
-fn group_line(group: u32, digest: u32) {
+pub(crate) fn group_line(group: u32, digest: u32) {
     let n = 2 + ((group / 2) as u64);
     if group % 2 == 0 {
         text::digest_line(b"N = ", n, b", overwrite", digest);
