@@ -1,6 +1,6 @@
-//! Times an action of the proved ring against the same work in Rust, in one run: a loop of actions by value, the replay of a trace, and the drain of a
-//! ring, full and with one reading waiting. The rows take turns in each round, so that a slow moment of the machine falls on all of them. Prints the
-//! least and the median of the rounds, in nanoseconds an action, and each row's ratio to Rust with the test of shape.
+//! Times an action of the proved ring against the same work in Rust, in one run: a loop of actions by value, the replay of a trace, and the drain
+//! of a ring, full and with one reading waiting. The rows take turns in each round, so that a slow moment of the machine falls on all of them.
+//! Prints the least and the median of the rounds, in nanoseconds an action, and each row's ratio to Rust with the test of shape.
 
 #[path = "../oracle/src/ring.rs"]
 #[allow(dead_code)]
@@ -152,7 +152,8 @@ fn ring_of(bytes: &[u8]) -> Ring {
     ring
 }
 
-/// A loop of Reads until the room is full or there is no more to be had; how many Events it stored, and how many Reads it made.
+/// A loop of Reads until the room is full or there is no more to be had, with no limit of eight; how many Events it stored, and how many Reads it
+/// made.
 #[inline]
 fn read_out(ring: &mut Ring, room: &mut [u64], act: impl Fn(&mut Ring, Action) -> Answer) -> (usize, usize) {
     let (mut filled, mut reads) = (0, 0);
@@ -214,7 +215,7 @@ fn replay_row(name: &'static str, run: fn(&[u8], &mut [u64]) -> usize) -> Row {
     })
 }
 
-/// The rows of a drain: the buffer, and how many Reads that is.
+/// The rows of a drain. Each comes to the buffer with the number filled; the Reads are counted once.
 fn drain_rows(readings: u32, turns: u32) -> Vec<Row> {
     let bytes = waiting_trace(readings);
     let ring = ring_of(&bytes);

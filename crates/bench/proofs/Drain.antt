@@ -6,29 +6,28 @@ use Prim.Native.Nat.{ℕ}
 use lib.ListN.{length, drop}
 use lib.Seq.{drop-append-seam}
 use Rattle.ring.specs.Replay.{over}
-use Rattle.ring.specs.Drain.{drainRule, filled, laidOut}
+use Rattle.ring.specs.Drain.{drainRule, drainedInto, laidOut}
 use Rattle.ring.specs.declared.state.Ring.{Ring}
-use Rattle.ring.specs.declared.state.Filled.{Filled}
+use Rattle.ring.specs.declared.state.DrainedInto.{DrainedInto}
 
 over-again : (front old : List ℕ) → over front (over front old) ≡ over front old
 over-again front old = ap (λ (l : List ℕ). front ++ l) (drop-append-seam front (drop (length front) old))
 
 -- after the drain of a ring into `start`, one more into what that left
-module _ (ring : Ring) (start : List ℕ) {room room' : List ℕ} {made made' : Filled} where
+module _ (ring : Ring) (start : List ℕ) {room room' : List ℕ} {made made' : DrainedInto} where
   pub again :
-      made ≡ filled (drainRule ring (length start)) →
+      made ≡ drainedInto (drainRule ring (length start)) →
       room ≡ laidOut (drainRule ring (length start)) start →
       length room ≡ length start →
-      made' ≡ filled (drainRule ring (length room)) →
+      made' ≡ drainedInto (drainRule ring (length room)) →
       room' ≡ laidOut (drainRule ring (length room)) room →
       (room' ≡ room) × (made' ≡ made)
   again m r l m' r' =
-      let es = drainRule ring (length start) .events in
-      (
+      let es = drainRule ring (length start) .events in (
         r'
-        ∙ ap (λ (n : ℕ). laidOut (drainRule ring n) room) l
-        ∙ ap (over es) r
-        ∙ over-again es start
-        ∙ sym r,
-        m' ∙ ap (λ (n : ℕ). filled (drainRule ring n)) l ∙ sym m,
+            ∙ ap (λ (n : ℕ). laidOut (drainRule ring n) room) l
+            ∙ ap (over es) r
+            ∙ over-again es start
+            ∙ sym r,
+        m' ∙ ap (λ (n : ℕ). drainedInto (drainRule ring n)) l ∙ sym m,
       )

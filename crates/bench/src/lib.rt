@@ -1,8 +1,8 @@
-// What is timed: a loop of actions by value, each on the ring that the last one returned, by the methods themselves and by `Ring::act`; the replay of a
-// trace, in place; and the drain of the ring that a trace leaves, in place.
+// What is timed: a loop of actions by value, each on the ring that the last one returned, by the methods themselves and by `Ring::act`; the replay
+// of a trace, in place; and the drain of the ring that a trace leaves, in place.
 ghost use mathlib.Core.Path.{_≡_};
 ghost use lib.ListN.{length};
-ghost use Rattle.ring.specs.Drain.{drainRule, laidOut};
+ghost use Rattle.ring.specs.Drain.{drainRule, drainedInto, laidOut};
 ghost use Rattle.bench.specs.Loop.{nextAction, handedAfter};
 ghost use Rattle.trace.specs.Header.{firstAction};
 ghost use Rattle.trace.specs.Replays.{replayedFrom, roomFrom};
@@ -73,7 +73,8 @@ pub extern "C" fn bench_replay(bytes: &[u8], answers: &mut [u64]) -> usize
     run.made
 }
 
-// The ring that a trace leaves, drained at least once and `turns` times, each time as the trace left it; the answer is how many elements a drain fills.
+// The ring that a trace leaves, drained `turns` times, or once where that is 0, each time as the trace left it; the answer is how many elements a
+// drain fills.
 #[no_mangle]
 pub extern "C" fn bench_drain(
     bytes: &[u8],
@@ -81,7 +82,7 @@ pub extern "C" fn bench_drain(
     room: &mut [u64],
     turns: u32,
 ) -> usize
-    ensures { λ r. ⌜ r ≡ length (drainRule (replayedFrom (now (bytes .entry)) firstAction (now (answers .entry)) .ring) (length (now (room .entry))) .events) ⌝ }
+    ensures { λ r. ⌜ r ≡ drainedInto (drainRule (replayedFrom (now (bytes .entry)) firstAction (now (answers .entry)) .ring) (length (now (room .entry)))) .count ⌝ }
     ensures { λ _. ⌜ now (answers .exit) ≡ roomFrom (now (bytes .entry)) firstAction (now (answers .entry)) ⌝ }
     ensures { λ _. ⌜ now (room .exit) ≡ laidOut (drainRule (replayedFrom (now (bytes .entry)) firstAction (now (answers .entry)) .ring) (length (now (room .entry)))) (now (room .entry)) ⌝ }
 {

@@ -1,18 +1,23 @@
 // An evening: 65537 readings in stop mode, drained through small buffers. The lines of the actions and drains are not printed.
 ghost use Prim.Native.Nat.{_≤_};
-use crate::many::MOST_ACTIONS;
 use crate::many::READINGS;
-use crate::many::write_out;
+use crate::many::written;
 use crate::steps::fresh;
-use ring::Action;
 use ring::Answer;
 use ring::Last;
 use ring::Ring;
 use std::num::wrapping_add_u64;
 use text::Tally;
 
-// The buffer's elements before a drain.
+// The buffer's elements before a drain, and how many there are.
 const OLD: u64 = 18446744073709551615;
+
+const ROOM: usize = 64;
+
+// A proved loop has to end; at most 256 readings wait here, and these drains take one each.
+const MOST_DRAINS: u32 = 1000;
+
+const TWO_32: u64 = 4294967296;
 
 // What is seen of one drain: the ring, the last answer, how many elements were filled, and how many of them stand in their order.
 struct Seen {
@@ -40,7 +45,7 @@ struct Evening {
 fn is_reading(stored: u64, j: u64) -> bool {
     let twice = wrapping_add_u64(j, j);
     let value = wrapping_add_u64(wrapping_add_u64(twice, j), 7);
-    (stored / 4294967296 == j) & (stored % 4294967296 == value)
+    (stored / TWO_32 == j) & (stored % TWO_32 == value)
 }
 
 // How many of the elements are the readings from `from` on, each in its place.
@@ -75,10 +80,10 @@ fn drain_once(ring: Ring, room: &mut [u64], from: u64) -> Seen {
 }
 
 // How many elements from `count` on are as they were.
-fn kept(buffer: &[u64; 64], count: usize) -> u64 {
+fn kept(buffer: &[u64; ROOM], count: usize) -> u64 {
     let mut n: u64 = 0;
     let mut i = count;
-    while i < 64 {
+    while i < ROOM {
         if buffer[i] == OLD {
             n = wrapping_add_u64(n, 1);
         }
@@ -91,7 +96,7 @@ fn kept(buffer: &[u64; 64], count: usize) -> u64 {
 fn count_last(last: Last, lasts: &mut Tally) -> u64 {
     match last {
         Last::None => 1,
-        Last::Told(answer) => {
+        Last::Given(answer) => {
             text::count_answer(lasts, answer);
             0
         }
@@ -101,7 +106,7 @@ fn count_last(last: Last, lasts: &mut Tally) -> u64 {
 fn is_event(last: Last) -> bool {
     match last {
         Last::None => false,
-        Last::Told(answer) => match answer {
+        Last::Given(answer) => match answer {
             Answer::Event(_, _) => true,
             _ => false,
         },
@@ -112,7 +117,7 @@ fn is_event(last: Last) -> bool {
 fn one_drain(evening: Evening, n: usize, lasts: &mut Tally) -> Evening
     requires { ⌜ n ≤ 64 ⌝ }
 {
-    let mut buffer = [OLD; 64];
+    let mut buffer = [OLD; ROOM];
     let seen = drain_once(evening.ring, &mut buffer[..n], evening.stored);
     let last = seen.last;
     let none = count_last(last, lasts);
@@ -142,7 +147,7 @@ fn length_at(turn: u32) -> usize
         4 => 5,
         5 => 8,
         6 => 13,
-        _ => 64,
+        _ => ROOM,
     }
 }
 
@@ -150,10 +155,7 @@ fn length_at(turn: u32) -> usize
 fn one_reading(mut evening: Evening, i: u32, tally: &mut Tally, lasts: &mut Tally) -> Evening
     requires { ⌜ i ≤ 65536 ⌝ }
 {
-    let begun = evening.ring.act(Action::Begin(3 * i + 7));
-    let answer = begun.answer;
-    text::count_answer(tally, answer);
-    evening.ring = write_out(begun.ring, tally);
+    evening.ring = written(evening.ring, 3 * i + 7, tally);
     if i % 4 == 3 {
         return one_drain(evening, length_at(i / 4), lasts);
     }
@@ -172,7 +174,7 @@ fn all_readings(mut evening: Evening, tally: &mut Tally, lasts: &mut Tally) -> E
 // Drains of one element, until one brings no Event.
 fn last_drains(evening: Evening, lasts: &mut Tally) -> Evening {
     let mut now = one_drain(evening, 1, lasts);
-    let mut left = MOST_ACTIONS;
+    let mut left = MOST_DRAINS;
     while left > 0 && now.is_event {
         now = one_drain(now, 1, lasts);
         left = left - 1;

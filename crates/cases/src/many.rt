@@ -10,7 +10,7 @@ use text::Tally;
 pub(crate) const READINGS: u32 = 65537;
 
 // A proved loop has to end; no reading here takes as many actions as this.
-pub(crate) const MOST_ACTIONS: u32 = 1000;
+const MOST_ACTIONS: u32 = 1000;
 
 // Whether the writer's work has ended.
 fn is_written(answer: Answer) -> bool {
@@ -37,7 +37,7 @@ fn is_event_of(answer: Answer, i: u32) -> bool {
 }
 
 // Writes until the writer's work has ended.
-pub(crate) fn write_out(ring: Ring, tally: &mut Tally) -> Ring {
+fn write_out(ring: Ring, tally: &mut Tally) -> Ring {
     let mut made = ring.act(Action::Write);
     let mut answer = made.answer;
     text::count_answer(tally, answer);
@@ -69,13 +69,18 @@ fn read_out(ring: Ring, i: u32, tally: &mut Tally, events: &mut u64) -> Ring {
     made.ring
 }
 
-// Reading i, with value i.
-fn one_reading(ring: Ring, i: u32, tally: &mut Tally, events: &mut u64) -> Ring {
-    let begun = ring.act(Action::Begin(i));
+// A reading with this value, begun and written.
+pub(crate) fn written(ring: Ring, value: u32, tally: &mut Tally) -> Ring {
+    let begun = ring.act(Action::Begin(value));
     let answer = begun.answer;
     text::count_answer(tally, answer);
-    let written = write_out(begun.ring, tally);
-    read_out(written, i, tally, events)
+    write_out(begun.ring, tally)
+}
+
+// Reading i, with value i.
+fn one_reading(ring: Ring, i: u32, tally: &mut Tally, events: &mut u64) -> Ring {
+    let after = written(ring, i, tally);
+    read_out(after, i, tally, events)
 }
 
 fn all_readings(mut ring: Ring, tally: &mut Tally, events: &mut u64) -> Ring {

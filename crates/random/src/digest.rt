@@ -20,7 +20,7 @@ const FACTOR: u64 = 1664525;
 
 const TERM: u64 = 1013904223;
 
-const TWO_32: u64 = 4294967296;
+pub(crate) const TWO_32: u64 = 4294967296;
 
 // How many slots a chain has: half of the room.
 const CHAIN: usize = 136;
@@ -54,7 +54,7 @@ pub(crate) fn fold_answer(h: u32, answer: Answer) -> u32 {
 pub(crate) fn fold_last(h: u32, last: Last) -> u32 {
     match last {
         Last::None => fold(h, 0),
-        Last::Told(answer) => fold_answer(fold(h, 1), answer),
+        Last::Given(answer) => fold_answer(fold(h, 1), answer),
     }
 }
 

@@ -1,18 +1,17 @@
 // One drain of a ring, drawn, made and folded in, and the last answers of many.
 ghost use Prim.Native.Nat.{_≤_};
 ghost use lib.ListN.{length};
+use crate::digest::TWO_32;
 use crate::digest::fold_buffer;
 use crate::digest::fold_last;
 use crate::digest::fold_ring;
 use crate::draws::any;
 use crate::draws::below;
-use ring::Filled;
+use ring::DrainedInto;
 use ring::Last;
 use ring::Ring;
 use std::num::wrapping_add_u64;
 use text::Tally;
-
-const TWO_32: u64 = 4294967296;
 
 // How much is lent: few elements every other time, so that a drain often ends with its room used up.
 fn draw_length(s: &mut u32) -> u32
@@ -39,7 +38,7 @@ fn draw_buffer(s: &mut u32) -> [u64; 40] {
 }
 
 // The first n elements are lent.
-fn drain_front(ring: Ring, n: usize, buffer: &mut [u64]) -> Filled
+fn drain_front(ring: Ring, n: usize, buffer: &mut [u64]) -> DrainedInto
     requires { ⌜ n ≤ length (now buffer) ⌝ }
 {
     ring.drain_into(&mut buffer[..n])
@@ -49,7 +48,7 @@ fn drain_front(ring: Ring, n: usize, buffer: &mut [u64]) -> Filled
 fn count_last(last: Last, none: &mut u64, tally: &mut Tally) {
     match last {
         Last::None => *none = wrapping_add_u64(*none, 1),
-        Last::Told(answer) => text::count_answer(tally, answer),
+        Last::Given(answer) => text::count_answer(tally, answer),
     }
 }
 
@@ -63,11 +62,11 @@ pub(crate) fn drain(
 ) -> Ring {
     let n = draw_length(s) as usize;
     let mut buffer = draw_buffer(s);
-    let filled = drain_front(ring, n, &mut buffer);
-    let last = filled.last;
+    let into = drain_front(ring, n, &mut buffer);
+    let last = into.last;
     count_last(last, none, tally);
-    let d = fold_buffer(fold_last(*h, last), filled.count, &buffer);
-    let after = filled.ring;
+    let d = fold_buffer(fold_last(*h, last), into.count, &buffer);
+    let after = into.ring;
     *h = fold_ring(d, after);
     after
 }

@@ -1,15 +1,16 @@
--- Laws of the tests and lists of specs/Lists: what `every`, `allBelow` and `least` tell, and what a tabulated list holds; and case splits on tests.
+-- Laws of the tests and lists of specs/Lists: what `every`, `allBelow` and `least` tell, and what a tabulated list holds; a run of stores;
+-- and case splits on tests.
 -- Assumes nothing.
 use mathlib.Core.Path.{_≡_, refl, sym, ap, _∙_}
 use mathlib.Core.Bool.{Bool, true, false, cond, _&&_, _||_, true≢false}
-use mathlib.Core.List.{List, [], _∷_}
-use Prim.Native.Nat.{ℕ, zero, suc, _+_, _≤_, _<_}
+use mathlib.Core.List.{List, [], _∷_, _++_}
+use Prim.Native.Nat.{ℕ, zero, suc, _+_, _-_, _≤_, _<_}
 use native.Mathlib.Omega.{arith}
 use native.Mathlib.Numerals.{add-one}
 use borrow.Author.Tests.{ltb-true, ltb-false, eqb-true, eqb-false}
 use lib.Dec.{eqb, ltb}
-use lib.ListN.{length, getD, replicate, length-append, List·getD-append}
-use lib.Seq.{getD-append-seam}
+use lib.ListN.{length, getD, set, replicate, length-append, List·getD-append}
+use lib.Seq.{getD-append-seam, sets}
 use Rattle.ring.specs.Lists.{andThen, every, all, allBelow, none, at, least, tabulate}
 
 -- ---- case splits
@@ -146,6 +147,16 @@ module _ (f : ℕ → ℕ) where
       by-eq i (length (tabulate k f))
       (λ q. rw q (getD-append-seam (tabulate k f) (f k) [] 0 ∙ ap f (sym l)))
       (λ n. List·getD-append (tabulate k f) (f k ∷ []) 0 i (omega arith) ∙ getD-tabulate k i (omega arith))
+
+-- ---- a run of stores, and one more
+
+pub sets-more : (xs room : List ℕ) (from x k : ℕ) → k ≡ length xs → sets room from (xs ++ (x ∷ [])) ≡ set (sets room from xs) (from + k) x
+sets-more [] room from x k e =
+    let here : from ≡ from + k = omega arith in
+    ap (λ (j : ℕ). set room j x) here
+sets-more (y ∷ xs) room from x k e =
+    let there : suc from + (k - 1) ≡ from + k = omega arith in
+    sets-more xs (set room from y) (suc from) x (k - 1) (omega arith) ∙ ap (λ (j : ℕ). set (sets (set room from y) (suc from) xs) j x) there
 
 -- ---- a list of zeros
 

@@ -5,3 +5,4 @@ pub mod Begin
 pub mod Write
 pub mod Read
 pub mod Always
+pub mod Reached

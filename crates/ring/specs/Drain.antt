@@ -1,31 +1,33 @@
--- Drain: Reads made one after the other, and their Events laid in a buffer that is lent. Request E2: "Ring, events and last answer are those of the same Reads
--- made singly."
+-- Drain: Reads made one after the other, and their Events laid in a buffer that is lent. Request E2: "Ring, events and last answer are those
+-- of the same Reads made singly." A `Drain` is what some Reads leave; `drained` makes them, in rows; `drainRule` is the call. What the code
+-- gives back of it is `drainedInto` and `laidOut`; in one call, with the part, `handedBack` (specs/Drained).
 -- Assumes nothing.
 use mathlib.Core.Path.{_≡_}
-use mathlib.Core.Bool.{Bool, true, false, cond}
+use mathlib.Core.Bool.{Bool, cond}
 use mathlib.Core.List.{List, [], _∷_}
-use Prim.Native.Nat.{ℕ, zero, suc, _+_, _*_, _≤_}
-use lib.ListN.{length}
-use denote.Ref.{RefT, ptr, now}
+use Prim.Native.Nat.{ℕ, zero, suc, _+_, _*_, _^_, _≤_}
+use lib.ListN.{length, getD, replicate}
+use Rattle.ring.specs.Lists.{tabulate}
+use Rattle.ring.specs.State.{reading}
 use Rattle.ring.specs.Answers.{Outcome}
 use Rattle.ring.specs.Shape.{inShape}
 use Rattle.ring.specs.Read.{readRule}
-use Rattle.ring.specs.Replay.{over}
+use Rattle.ring.specs.Replay.{ringAfter, answersOf, over}
 use Rattle.ring.specs.declared.state.ReadingNo.{ReadingNo}
 use Rattle.ring.specs.declared.state.Refusal.the-variants.{Shape}
 use Rattle.ring.specs.declared.state.Answer.{Answer}
 use Rattle.ring.specs.declared.state.Answer.the-variants as answer
+use Rattle.ring.specs.declared.state.Action.the-variants.{Read}
 use Rattle.ring.specs.declared.state.Ring.{Ring}
 use Rattle.ring.specs.declared.state.Last.{Last}
-use Rattle.ring.specs.declared.state.Last.the-variants.{None, Told}
-use Rattle.ring.specs.declared.state.Filled.{Filled}
-use Rattle.ring.specs.declared.drained.Drained.{Drained}
+use Rattle.ring.specs.declared.state.Last.the-variants.{None, Given}
+use Rattle.ring.specs.declared.state.DrainedInto.{DrainedInto}
 
 -- ---- what an answer is to a drain
 
 -- "number × 2^32 + value"
 abbrev pub eventNumber : ReadingNo → ℕ → ℕ
-eventNumber n v = n .0 * 4294967296 + v
+eventNumber n v = n .0 * 2 ^ 32 + v
 
 -- an Event, as the number that is stored; "Empty, Busy or a refusal"; and what is none of these, after which the Reads go on
 pub data Kind : Type 0 where
@@ -62,14 +64,14 @@ kindOf answer.Pending = quiet
 
 -- ---- the Reads
 
--- what some Reads leave: the ring, the events that they told, oldest first, each as it is stored, and the last answer
+-- what some Reads leave: the ring, the events that they told, in the order of the Reads and each as it is stored, and the last answer
 pub record Drain : Type 0 where
   pub ring : Ring
   pub events : List ℕ
   pub last : Last
 
-abbrev pub stop : Ring → Last → Drain
-stop r last = record { ring = r; events = []; last = last }
+abbrev pub noMore : Ring → Last → Drain
+noMore r last = record { ring = r; events = []; last = last }
 
 -- one event before others
 abbrev pub before : ℕ → Drain → Drain
@@ -81,57 +83,92 @@ byKind (event e) later end on = before e later
 byKind ending later end on = end
 byKind quiet later end on = on
 
--- Reads in a row, at most `left` of them, until one is not quiet; after an Event goes on what `later` says
+-- Reads in a row, at most `left` of them, until one is not quiet; after an Event the drain goes on as `later` says
 abbrev pub row : (Ring → Last → Drain) → ℕ → Ring → Last → Drain
-row later zero r last = stop r last
+row later zero r last = noMore r last
 row later (suc left) r last =
     byKind (kindOf (readRule r .answer))
-    (later (readRule r .ring) (Told (readRule r .answer)))
-    (stop (readRule r .ring) (Told (readRule r .answer)))
-    (row later left (readRule r .ring) (Told (readRule r .answer)))
+    (later (readRule r .ring) (Given (readRule r .answer)))
+    (noMore (readRule r .ring) (Given (readRule r .answer)))
+    (row later left (readRule r .ring) (Given (readRule r .answer)))
 
--- "Reads are made until the buffer is full", of which `room` elements are left, "or an answer is Empty, Busy or a refusal, or" `most` "Reads in a row have
--- brought none of these and no Event"
+-- "Reads are made until the buffer is full", of which `room` elements are left, "or an answer is Empty, Busy or a refusal, or" `most` "Reads
+-- in a row have brought none of these and no Event"
 abbrev pub drained : ℕ → ℕ → Ring → Last → Drain
-drained most zero r last = stop r last
+drained most zero r last = noMore r last
 drained most (suc room) r last = row (drained most room) most r last
 
 -- "eight Reads in a row"
-abbrev pub mostQuiet : ℕ
-mostQuiet = 8
+abbrev pub mostInRow : ℕ
+mostInRow = 8
 
--- "A ring out of shape gets 1, whatever the buffer's length, with nothing stored and an empty part handed back. Otherwise length 0 means no Read, the same
--- ring, last answer none."
+-- "A ring out of shape gets 1, whatever the buffer's length, with nothing stored and an empty part handed back. Otherwise length 0 means no
+-- Read, the same ring, last answer "none"."
 abbrev pub drainRule : Ring → ℕ → Drain
-drainRule r room = cond (inShape r) (drained mostQuiet room r None) (stop r (Told (answer.Refused Shape)))
+drainRule r room = cond (inShape r) (drained mostInRow room r None) (noMore r (Given (answer.Refused Shape)))
 
 -- ---- as the code gives it back
 
-abbrev pub filled : Drain → Filled
-filled d = record { ring = d .ring; last = d .last; count = length (d .events) }
+abbrev pub drainedInto : Drain → DrainedInto
+drainedInto d = record { ring = d .ring; last = d .last; count = length (d .events) }
 
 -- the buffer: the events, and "the rest keeps its old contents"
 abbrev pub laidOut : Drain → List ℕ → List ℕ
 laidOut d room = over (d .events) room
 
--- in one call: the ring, the last answer, and the part of the buffer that holds the events and no more. The part starts where the buffer starts
-abbrev pub handedBack : Drain → RefT (List ℕ) → Drained → Type 0
-handedBack d room r = (r .ring ≡ d .ring) × (r .last ≡ d .last) × (now (r .part) ≡ d .events) × (ptr (r .part) ≡ ptr room)
+-- ---- as the code makes it
 
--- ---- that eight in a row never end a drain, of a ring that is reached from a fresh one
+-- the reading i slots after a slot, as it is stored, and so many of them
+abbrev pub eventAt : List ℕ → List ℕ → ℕ → ℕ → ℕ
+eventAt numbers values from i = eventNumber (reading (getD numbers (from + i) 0)) (getD values (from + i) 0)
+
+abbrev pub eventsFrom : List ℕ → List ℕ → ℕ → ℕ → List ℕ
+eventsFrom numbers values from count = tabulate count (eventAt numbers values from)
+
+-- the last answer where the turns end: a Read that is still due is refused, since the ring is out of shape
+abbrev pub lastAfter : Bool → Last → Last
+lastAfter due last = cond due (Given (answer.Refused Shape)) last
+
+-- ---- the same as single actions
+
+abbrev eventThen : Kind → List ℕ → List ℕ
+eventThen (event e) es = e ∷ es
+eventThen ending es = es
+eventThen quiet es = es
+
+-- the events that some answers tell
+abbrev pub eventsAmong : List Answer → List ℕ
+eventsAmong [] = []
+eventsAmong (a ∷ rest) = eventThen (kindOf a) (eventsAmong rest)
+
+-- the last of some answers, after the one before them
+abbrev pub lastOf : Last → List Answer → Last
+lastOf last [] = last
+lastOf last (a ∷ rest) = lastOf (Given a) rest
+
+-- "the same Reads made singly": so many Reads, one after the other on the ring r, leave what a drain leaves (`drain-singly`, proofs/drain/Singly).
+-- On a ring out of shape it is the one Read that gets 1.
+pub record Singly (r : Ring) (d : Drain) : Type 0 where
+  pub reads : ℕ
+  pub ring : d .ring ≡ ringAfter r (replicate reads Read)
+  pub events : d .events ≡ eventsAmong (answersOf r (replicate reads Read))
+  pub last : d .last ≡ lastOf None (answersOf r (replicate reads Read))
+
+-- ---- that eight in a row never end a drain of a ring that is reached from a fresh one
 
 -- an Event, Empty or Busy
 pub data Brought : Last → Type 0 where
-  anEvent : (n : ReadingNo) (v : ℕ) → Brought (Told (answer.Event n v))
-  anEmpty : Brought (Told answer.Empty)
-  aBusy : Brought (Told answer.Busy)
+  anEvent : (n : ReadingNo) (v : ℕ) → Brought (Given (answer.Event n v))
+  anEmpty : Brought (Given answer.Empty)
+  aBusy : Brought (Given answer.Busy)
 
--- "a Read sequence brings Event, Empty or Busy within 6": one drain of one element, with at most six Reads in a row, ends with one of them. So no drain is ended
--- by a limit of six or more, and eight do what any more would do.
+-- "a Read sequence brings Event, Empty or Busy within 6"
 abbrev pub enough : ℕ
 enough = 6
 
+-- one drain of one element, with at most six Reads in a row, ends with one of the three; so does every drain with room; and any limit of six
+-- or more gives what eight give
 pub record Brings (r : Ring) : Type 0 where
   pub within : Brought (drained enough 1 r None .last)
   pub ends : (room : ℕ) → Brought (drainRule r (suc room) .last)
-  pub unlimited : (most room : ℕ) → enough ≤ most → drained most room r None ≡ drained mostQuiet room r None
+  pub sameAbove : (most room : ℕ) → enough ≤ most → drained most room r None ≡ drained mostInRow room r None

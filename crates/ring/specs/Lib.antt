@@ -18,6 +18,7 @@ pub mod Actions
 pub mod Change
 pub mod Replay
 pub mod Drain
+pub mod Drained
 pub mod Turn
 pub mod Remember
 pub mod History

@@ -23,7 +23,7 @@ use Rattle.ring.specs.declared.state.Action.{Action}
 use Rattle.ring.specs.declared.state.Ring.{Ring}
 use Rattle.ring.specs.declared.state.Replay.{Replay}
 
--- ---- the actions one by one, each on the ring that the last one returned. The ring is that of the run that demand 3 speaks of (`after-now`, proofs/replay/Laws)
+-- ---- the actions one by one, each on the ring that the last one returned. The ring is that of the run that demand 3 speaks of (`after-now`, proofs/runs/Reached)
 
 abbrev pub ringAfter : Ring → List Action → Ring
 ringAfter r [] = r

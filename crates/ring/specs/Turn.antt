@@ -1,55 +1,43 @@
--- A turn of a drain, as one record of pieces, for code that keeps the ring in one place: Events that stand one after the other on the reader page are made together,
--- and a Read of another kind by itself. That storing the pieces makes these Reads is `turn-drains` (proofs/turn/Laws), for a ring in shape.
+-- A turn of a drain, as one record of pieces, for code that keeps the ring in one place: Events that stand one after the other on the reader
+-- page are made together, and a Read of another kind by itself. That storing the pieces makes these Reads is `turn-drains`
+-- (proofs/turn/Laws), for a ring in shape.
 -- Assumes nothing.
 use mathlib.Core.Path.{_≡_}
-use mathlib.Core.Bool.{Bool, true, cond}
+use mathlib.Core.Bool.{true, cond}
 use mathlib.Core.List.{List}
 use Prim.Native.Nat.{ℕ, _+_, _-_, _≤_, _<_}
 use lib.Dec.{ltb}
-use lib.ListN.{getD}
 use Rattle.ring.specs.Limits.{mostPages, mostSlots, mostCount}
-use Rattle.ring.specs.Lists.{tabulate}
-use Rattle.ring.specs.State.{reading, placesPosition, withPlaces, withHanded, withReader, withWords, withUsed, slotIndex}
+use Rattle.ring.specs.State.{placesPosition, withPlaces, withHanded, withReader, withWords, withUsed, slotIndex}
 use Rattle.ring.specs.Shape.{readerFits}
 use Rattle.ring.specs.Read.{readLimit, planReader}
 use Rattle.ring.specs.Pieces.{readAnswer, readPlaces, readPhase, readStores, wordsStored, usedStored, FetchFits, EventFits}
-use Rattle.ring.specs.Drain.{eventNumber, mostQuiet}
+use Rattle.ring.specs.Drain.{mostInRow}
 use Rattle.ring.specs.declared.state.Size.{Size}
 use Rattle.ring.specs.declared.state.Places.{Places}
 use Rattle.ring.specs.declared.state.Counts.{Counts}
 use Rattle.ring.specs.declared.state.Reader.{Reader}
-use Rattle.ring.specs.declared.state.Refusal.the-variants.{Shape}
-use Rattle.ring.specs.declared.state.Answer.the-variants as answer
 use Rattle.ring.specs.declared.state.Ring.{Ring}
-use Rattle.ring.specs.declared.state.Last.{Last}
-use Rattle.ring.specs.declared.state.Last.the-variants.{Told}
 use Rattle.ring.specs.declared.moves.Fetch.{Fetch}
 use Rattle.ring.specs.declared.moves.Fetch.the-variants.{Event, Empty, Busy, Find, Prepare, Swap, Miss}
 use Rattle.ring.specs.declared.moves.Turn.{Turn}
 
 -- ---- Events that stand one after the other
 
--- the reading i slots after a slot, as it is stored, and so many of them
-abbrev pub eventAt : List ℕ → List ℕ → ℕ → ℕ → ℕ
-eventAt numbers values from i = eventNumber (reading (getD numbers (from + i) 0)) (getD values (from + i) 0)
-
-abbrev pub eventsFrom : List ℕ → List ℕ → ℕ → ℕ → List ℕ
-eventsFrom numbers values from count = tabulate count (eventAt numbers values from)
-
 abbrev pub smaller : ℕ → ℕ → ℕ
 smaller a b = cond (ltb a b) a b
 
--- how many there are: on the reader page up to the limit, as there is room for, and as the counts allow. The one that makes handed + overwritten more than
--- committed is made, and no Read after it.
-abbrev pub ready : Fetch → Places → Counts → List ℕ → ℕ → ℕ
-ready Event places counts used room =
+-- how many there are: the least of those on the reader page, those that there is room for, and those that the counts allow. The one that makes
+-- handed + overwritten more than committed is allowed, and is the last: it leaves the ring out of shape.
+abbrev pub eventCount : Fetch → Places → Counts → List ℕ → ℕ → ℕ
+eventCount Event places counts used room =
     smaller (smaller (readLimit places used - places .position) room) (counts .committed + 1 - (counts .handed + counts .overwritten))
-ready Empty places counts used room = 0
-ready Busy places counts used room = 0
-ready (Find p h) places counts used room = 0
-ready (Prepare p h) places counts used room = 0
-ready (Swap p h) places counts used room = 0
-ready Miss places counts used room = 0
+eventCount Empty places counts used room = 0
+eventCount Busy places counts used room = 0
+eventCount (Find p h) places counts used room = 0
+eventCount (Prepare p h) places counts used room = 0
+eventCount (Swap p h) places counts used room = 0
+eventCount Miss places counts used room = 0
 
 -- the places before the last Read of the turn
 abbrev pub placesBefore : Places → ℕ → Places
@@ -58,17 +46,13 @@ placesBefore places count = placesPosition (places .position + (count - 1)) plac
 -- ---- how many Reads may still be made before the next Event
 
 abbrev pub leftAfter : Fetch → ℕ → ℕ
-leftAfter Event left = mostQuiet
+leftAfter Event left = mostInRow
 leftAfter Empty left = 0
 leftAfter Busy left = 0
 leftAfter (Find p h) left = left - 1
 leftAfter (Prepare p h) left = left - 1
 leftAfter (Swap p h) left = left - 1
 leftAfter Miss left = left - 1
-
--- the last answer where the turns end: a Read that is still due is refused, since the ring is out of shape
-abbrev pub lastAfter : Bool → Last → Last
-lastAfter due last = cond due (Told (answer.Refused Shape)) last
 
 -- ---- the turn
 
@@ -87,7 +71,7 @@ turn f count left size places counts reader words numbers values =
 
 abbrev pub turnBy : ℕ → ℕ → Size → Places → Counts → Reader → List ℕ → List ℕ → List ℕ → List ℕ → Turn
 turnBy left room size places counts reader words used numbers values =
-    turn (planReader (reader .phase) size places words used) (ready (planReader (reader .phase) size places words used) places counts used room)
+    turn (planReader (reader .phase) size places words used) (eventCount (planReader (reader .phase) size places words used) places counts used room)
     left size places counts reader words numbers values
 
 abbrev pub turnOf : Ring → ℕ → ℕ → Turn
@@ -102,7 +86,7 @@ turned t r =
 
 -- ---- what the code asks of the pieces: a ring in shape has it (`turn-fits`)
 
-pub record ReadyFits (f : Fetch) (places : Places) (counts : Counts) (used : List ℕ) : Type 0 where
+pub record CountFits (f : Fetch) (places : Places) (counts : Counts) (used : List ℕ) : Type 0 where
   pub page : places .reader .0 ≤ mostPages
   pub agree : counts .handed + counts .overwritten ≤ counts .committed
   pub committed : counts .committed ≤ mostCount
@@ -115,8 +99,8 @@ pub record TurnFits (left room : ℕ) (size : Size) (places : Places) (counts : 
   pub position : places .position ≤ mostSlots
   pub phase : readerFits (reader .phase) size ≡ true
   pub fetch : FetchFits (planReader (reader .phase) size places words used)
-  pub events : ReadyFits (planReader (reader .phase) size places words used) places counts used
-  pub few : places .position + ready (planReader (reader .phase) size places words used) places counts used room ≤ mostSlots
+  pub events : CountFits (planReader (reader .phase) size places words used) places counts used
+  pub few : places .position + eventCount (planReader (reader .phase) size places words used) places counts used room ≤ mostSlots
   pub event :
       EventFits (planReader (reader .phase) size places words used) size
-      (placesBefore places (ready (planReader (reader .phase) size places words used) places counts used room))
+      (placesBefore places (eventCount (planReader (reader .phase) size places words used) places counts used room))

@@ -1,5 +1,5 @@
-// Drain: Reads made one after the other, and their Events laid in a buffer that is lent. The ring stays in one place, and its shape is tested once: a Read
-// can undo it only by the counts, and the two that an Event moves apart are compared at each turn.
+// Drain: Reads made one after the other, and their Events laid in a buffer that is lent. The ring stays in one place, and its shape is tested
+// once: a Read can leave it only by making handed + overwritten more than committed, and that is tested at each turn.
 ghost use mathlib.Core.Path.{_≡_};
 ghost use mathlib.Core.Bool.{true};
 ghost use Prim.Native.Nat.{_+_, _≤_};
@@ -9,8 +9,7 @@ ghost use lib.Seq.{sets};
 ghost use Rattle.ring.specs.Limits.{slotRoom, mostCount};
 ghost use Rattle.ring.specs.State.{reading};
 ghost use Rattle.ring.specs.Shape.{inShape};
-ghost use Rattle.ring.specs.Drain.{eventNumber, mostQuiet, drained, drainRule, filled, laidOut};
-ghost use Rattle.ring.specs.Turn.{eventsFrom, lastAfter};
+ghost use Rattle.ring.specs.Drain.{eventNumber, eventsFrom, lastAfter, mostInRow, drained, drainRule, drainedInto, laidOut};
 ghost use Rattle.ring.specs.declared.state.Last.the-variants.{None};
 use crate::change::store_used;
 use crate::change::store_words;
@@ -18,11 +17,11 @@ use crate::shape::counts_fit;
 use crate::shape::layout_fits;
 use crate::state::Answer;
 use crate::state::Counts;
-use crate::state::Filled;
+use crate::state::DrainedInto;
 use crate::state::Last;
 use crate::state::Refusal;
 use crate::state::Ring;
-use crate::turn::MOST_QUIET;
+use crate::turn::MOST_IN_ROW;
 use crate::turn::turn_by;
 
 // An Event as it is stored.
@@ -52,7 +51,7 @@ fn lay_events<'a>(
     }
 }
 
-// Whether the counts still agree: the one test of shape that an Event can undo.
+// Whether handed + overwritten is at most committed: the one clause of the shape that an Event can break.
 fn agrees(counts: Counts) -> bool
     requires { ⌜ (counts .handed ≤ mostCount + 1) × (counts .overwritten ≤ mostCount) ⌝ }
     ensures { λ r. ⌜ r ≡ leb (counts .handed + counts .overwritten) (counts .committed) ⌝ }
@@ -60,12 +59,12 @@ fn agrees(counts: Counts) -> bool
     counts.handed + counts.overwritten <= counts.committed
 }
 
-// The last answer. Where a Read is still due, the ring is out of shape, and it is refused.
+// The last answer. Where a Read is still due, the ring is out of shape, and that Read is refused.
 fn last_after(due: bool, last: Last) -> Last
     ensures { λ r. ⌜ r ≡ lastAfter due last ⌝ }
 {
     if due {
-        Last::Told(Answer::Refused(Refusal::Shape))
+        Last::Given(Answer::Refused(Refusal::Shape))
     } else {
         last
     }
@@ -73,13 +72,13 @@ fn last_after(due: bool, last: Last) -> Last
 
 impl Ring {
     // The Reads of a ring in shape.
-    fn drain_shaped(mut self, room: &mut [u64]) -> Filled
+    fn drain_shaped(mut self, room: &mut [u64]) -> DrainedInto
         requires { ⌜ inShape self ≡ true ⌝ }
-        ensures { λ r. ⌜ (r ≡ filled (drained mostQuiet (length (now (room .entry))) self None)) × (now (room .exit) ≡ laidOut (drained mostQuiet (length (now (room .entry))) self None) (now (room .entry))) ⌝ }
+        ensures { λ r. ⌜ (r ≡ drainedInto (drained mostInRow (length (now (room .entry))) self None)) × (now (room .exit) ≡ laidOut (drained mostInRow (length (now (room .entry))) self None) (now (room .entry))) ⌝ }
     {
         let most = room.len();
         let mut at: usize = 0;
-        let mut left: u32 = MOST_QUIET;
+        let mut left: u32 = MOST_IN_ROW;
         let mut last = Last::None;
         while (at < most) & (0 < left) & agrees(self.counts) {
             let t = turn_by(
@@ -107,21 +106,21 @@ impl Ring {
             store_used(&mut self.used, stores);
             at = at + t.count;
             left = t.left;
-            last = Last::Told(answer);
+            last = Last::Given(answer);
         }
-        let due = (at < most) & (0 < left);
-        let told = last_after(due, last);
-        Filled {
+        let told = last_after((at < most) & (0 < left), last);
+        DrainedInto {
             ring: self,
             last: told,
             count: at,
         }
     }
 
-    // Reads, until the room is full, an answer is Empty, Busy or a refusal, or MOST_QUIET of them in a row have brought no Event. The Events are the first
-    // `count` elements of the room, each as number * 2^32 + value; the rest keeps its contents. Refused with SHAPE out of shape, whatever the room.
-    pub fn drain_into(self, room: &mut [u64]) -> Filled
-        ensures { λ r. ⌜ (r ≡ filled (drainRule self (length (now (room .entry))))) × (now (room .exit) ≡ laidOut (drainRule self (length (now (room .entry)))) (now (room .entry))) ⌝ }
+    // Reads, until the room is full, an answer is Empty, Busy or a refusal, or MOST_IN_ROW of them in a row have brought none of these and no
+    // Event. The Events are the first `count` elements of the room, each as number * 2^32 + value; the rest keeps its contents. A ring out of
+    // shape is refused with SHAPE, whatever the room's length.
+    pub fn drain_into(self, room: &mut [u64]) -> DrainedInto
+        ensures { λ r. ⌜ (r ≡ drainedInto (drainRule self (length (now (room .entry))))) × (now (room .exit) ≡ laidOut (drainRule self (length (now (room .entry)))) (now (room .entry))) ⌝ }
     {
         let size = self.size;
         let places = self.places;
@@ -131,9 +130,9 @@ impl Ring {
         let fit = counts_fit(self.counts)
             & layout_fits(size, places, reader, stack, depth, &self.words, &self.used);
         if !fit {
-            return Filled {
+            return DrainedInto {
                 ring: self,
-                last: Last::Told(Answer::Refused(Refusal::Shape)),
+                last: Last::Given(Answer::Refused(Refusal::Shape)),
                 count: 0,
             };
         }

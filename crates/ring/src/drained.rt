@@ -1,9 +1,10 @@
-// Drain in one call: the part of the buffer that was filled is handed back, in a struct that keeps hold of it. In a file of its own: the borrow checker does
-// not cover a function that makes such a struct, so the proof of `drain` is by hand, and all that it calls is covered.
+// Drain in one call: the part of the buffer that was filled is handed back, in a struct that keeps hold of it. In a file of its own: the borrow
+// checker does not cover a function that makes such a struct, so the proof of `drain` is by hand, and all that it calls is covered.
 ghost use mathlib.Core.Path.{_≡_};
 ghost use Prim.Native.Nat.{_≤_};
 ghost use lib.ListN.{length, take};
-ghost use Rattle.ring.specs.Drain.{drainRule, handedBack};
+ghost use Rattle.ring.specs.Drain.{drainRule};
+ghost use Rattle.ring.specs.Drained.{handedBack};
 use crate::state::Last;
 use crate::state::Ring;
 
@@ -23,8 +24,9 @@ fn front<'a>(room: &'a mut [u64], count: usize) -> &'a mut [u64]
 }
 
 impl Ring {
-    // What `drain_into` does, with the filled part handed back: the front of the room, which holds the Events and nothing else. The room goes into the
-    // part, so nothing is said here of the elements beyond it; that they keep their contents is said by `drain_into`.
+    // What `drain_into` does, with the filled part handed back: the front of the room, which holds the Events and nothing else. The result holds
+    // the room's lifetime, so no clause here can speak of the elements beyond the part; that they keep their contents is promised by
+    // `drain_into`.
     pub fn drain<'a>(self, room: &'a mut [u64]) -> Drained<'a>
         ensures { λ r. ⌜ handedBack (drainRule self (length (now (room .entry)))) (room .entry) r ⌝ }
     {

@@ -29,7 +29,7 @@ pub use codes::answer_numbers;
 pub use drained::Drained;
 pub use state::Action;
 pub use state::Answer;
-pub use state::Filled;
+pub use state::DrainedInto;
 pub use state::Last;
 pub use state::PageNo;
 pub use state::ReadingNo;

@@ -90,7 +90,7 @@ pub struct Turn {
     // how many Events, and the place of the first one's slot
     pub count: usize,
     pub from: usize,
-    // the last one's answer
+    // the answer of the last Read
     pub answer: Answer,
     // how many Reads may still be made before the next Event
     pub left: u32,

@@ -179,11 +179,11 @@ pub struct Replay {
 // The last answer of a drain; none where no Read was made.
 pub enum Last {
     None,
-    Told(Answer),
+    Given(Answer),
 }
 
 // What a drain gives back beside the elements that it stored: they are the first `count` of the buffer that was lent.
-pub struct Filled {
+pub struct DrainedInto {
     pub ring: Ring,
     pub last: Last,
     pub count: usize,

@@ -1,10 +1,9 @@
-// A turn of a drain, decided on the pieces of a ring in shape: Events that stand one after the other on the reader page are made together, and a Read of
-// another kind by itself.
+// A turn of a drain, decided on the pieces of a ring in shape: Events that stand one after the other on the reader page are made together, and a
+// Read of another kind by itself.
 ghost use mathlib.Core.Path.{_≡_};
-ghost use Prim.Native.Nat.{_+_, _-_, _<_, _≤_};
-ghost use lib.ListN.{length};
+ghost use Prim.Native.Nat.{_<_, _≤_};
 ghost use Rattle.ring.specs.Limits.{mostSlots};
-ghost use Rattle.ring.specs.Turn.{smaller, ready, placesBefore, leftAfter, turnBy, ReadyFits, TurnFits};
+ghost use Rattle.ring.specs.Turn.{smaller, eventCount, placesBefore, leftAfter, turnBy, CountFits, TurnFits};
 use crate::cells::slot_index;
 use crate::moves::Fetch;
 use crate::moves::Turn;
@@ -19,8 +18,8 @@ use crate::state::Places;
 use crate::state::Reader;
 use crate::state::Size;
 
-// So many Reads in a row may bring neither an Event nor an end.
-pub const MOST_QUIET: u32 = 8;
+// After so many Reads in a row with no Event, Empty, Busy or refusal, a drain ends.
+pub const MOST_IN_ROW: u32 = 8;
 
 fn smaller(a: usize, b: usize) -> usize
     ensures { λ r. ⌜ r ≡ smaller a b ⌝ }
@@ -28,11 +27,11 @@ fn smaller(a: usize, b: usize) -> usize
     if a < b { a } else { b }
 }
 
-// How many Events come one after the other: as many as stand on the reader page, as there is room for, and as the counts allow. One more than
-// `committed` can hold is allowed, and it is the last: it leaves the ring out of shape.
-fn events_ready(f: Fetch, places: Places, counts: Counts, used: &[u32; 17], room: usize) -> usize
-    requires { ⌜ ReadyFits f places counts (now used) ⌝ }
-    ensures { λ r. ⌜ r ≡ ready f places counts (now (used .entry)) room ⌝ }
+// How many Events come one after the other: the least of those on the reader page, those that there is room for, and those that the counts
+// allow. The one that makes handed + overwritten more than committed is allowed, and is the last: it leaves the ring out of shape.
+fn event_count(f: Fetch, places: Places, counts: Counts, used: &[u32; 17], room: usize) -> usize
+    requires { ⌜ CountFits f places counts (now used) ⌝ }
+    ensures { λ r. ⌜ r ≡ eventCount f places counts (now (used .entry)) room ⌝ }
 {
     match f {
         Fetch::Event => {
@@ -62,7 +61,7 @@ fn left_after(f: Fetch, left: u32) -> u32
     ensures { λ r. ⌜ r ≡ leftAfter f left ⌝ }
 {
     match f {
-        Fetch::Event => MOST_QUIET,
+        Fetch::Event => MOST_IN_ROW,
         Fetch::Empty => 0,
         Fetch::Busy => 0,
         _ => left - 1,
@@ -85,13 +84,13 @@ pub(crate) fn turn_by<'a>(
     ensures { λ r. ⌜ r ≡ turnBy left room size places counts reader (now (words .entry)) (now (used .entry)) (now (numbers .entry)) (now (values .entry)) ⌝ }
 {
     let f = plan_reader(reader, size, places, words, used);
-    let count = events_ready(f, places, counts, used, room);
+    let count = event_count(f, places, counts, used, room);
     let from = slot_index(size, places.reader, places.position);
-    let last = places_before(places, count);
-    let answer = read_answer(f, size, last, numbers, values);
+    let before = places_before(places, count);
+    let answer = read_answer(f, size, before, numbers, values);
     let left_then = left_after(f, left);
     let handed = counts.handed + (count as u64);
-    let places_then = read_places(f, last);
+    let places_then = read_places(f, before);
     let reader_then = read_phase(f, reader);
     let stores = read_stores(f, places.reader, words);
     Turn {

@@ -5,7 +5,7 @@ use mathlib.Core.List.{List, [], _∷_, _++_, append-assoc, append-nil}
 use Prim.Native.Nat.{ℕ, _+_, _*_, _≤_}
 use native.Mathlib.Omega.{arith}
 use borrow.Author.Tests.{le-leb, le-ltb, eq-eqb, ne-eqb}
-use lib.ListN.{length, length-append, length-drop}
+use lib.ListN.{length, length-append}
 use lib.Seq.{take-append-seam, drop-append-add, drop-drop}
 use Rattle.ring.specs.State.{sizeOf}
 use Rattle.ring.specs.Shape.{sizeFits}
@@ -20,6 +20,7 @@ use Rattle.trace.specs.Trace.{ValuesFit, traceOf, Written, writtenFrom, 
 use Rattle.trace.specs.declared.parts.Header.the-variants.{Ready}
 use Rattle.trace.specs.declared.parts.Put.{Put}
 use Rattle.trace.specs.declared.parts.Put.the-variants.{At, Refused}
+use Rattle.ring.proofs.replay.Laws.{over-length}
 use Rattle.trace.proofs.Actions.{decoded-encoded}
 use Rattle.trace.proofs.encode.Laws.{small, placed, fronted}
 use Rattle.trace.proofs.walk.Laws.{room-enough}
@@ -62,9 +63,6 @@ refused-after : {p : Put} {why : Refusal} (new old : List ℕ) (actions : List A
 refused-after {p} {why} new old actions e = ap (λ (q : Put). writtenFrom q (kept q new old) actions .place) e ∙ refused-stays why old actions
 
 module _ (out : List ℕ) where
-  over-length : (pre : List ℕ) → length pre ≤ length out → length (over pre out) ≡ length out
-  over-length pre h = simp (length-append, length-drop) (omega arith)
-
   -- bytes put after those that are there already
   over-more : (pre bytes : List ℕ) → put bytes (length pre) (over pre out) ≡ over (pre ++ bytes) out
   over-more pre bytes = simp (take-append-seam, drop-append-add, drop-drop, length-append)
@@ -72,7 +70,7 @@ module _ (out : List ℕ) where
   -- bytes that have room are put
   has-place : (pre bytes : List ℕ) → length pre + length bytes ≤ mostLength → length pre + length bytes ≤ length out → placeFor (length (over pre out)) (length pre) (length bytes) ≡ At (length pre + length bytes)
   has-place pre bytes s f =
-      rw (over-length pre (omega arith), le-ltb mostLength (length pre + length bytes) s, le-ltb (length out) (length pre + length bytes) f)
+      rw (over-length pre out (omega arith), le-ltb mostLength (length pre + length bytes) s, le-ltb (length out) (length pre + length bytes) f)
 
   -- one call that is not refused, after which the bytes of one action more stand at the front
   one-more : (pre : List ℕ) (a : Action) (rest : List Action) {next : ℕ} → actionPlace (length (over pre out)) (length pre) a ≡ At next → writtenFrom (At (length pre)) (over pre out) (a ∷ rest) ≡ writtenFrom (At (length (pre ++ coded a))) (over (pre ++ coded a) out) rest
@@ -105,7 +103,7 @@ module _ (out : List ℕ) where
       (λ next e.
       let p = placed (length (over pre out)) (length pre) (length (coded a)) e in
       let n = length-append pre (coded a) in
-      let k = over-length pre f in
+      let k = over-length pre out f in
       let o = one-more pre a rest e in
       rw (o, ← append-assoc) (wrote-from (pre ++ coded a) rest end (omega arith) (omega arith) (rw o at h)))
       (λ why e. not-both (refused-after (put (coded a) (length pre) (over pre out)) (over pre out) rest e) h)

@@ -1,12 +1,11 @@
 -- `bench_drain` drains the ring that the trace leaves: each further drain gives what the first gave, and leaves the room as it is. Assumes nothing.
-use mathlib.Core.Path.{_≡_, refl, sym, ap, _∙_}
-use Prim.Native.Nat.{ℕ, _-_, _<_}
+use mathlib.Core.Path.{_≡_, refl, ap, _∙_}
+use Prim.Native.Nat.{_-_}
 use native.Mathlib.Omega.{arith}
 use borrow.Author.Needs.{needs}
 use lib.ListN.{length}
-use Rattle.ring.specs.Drain.{drainRule, laidOut}
-use Rattle.ring.specs.declared.state.Ring.{Ring}
-use Rattle.ring.specs.declared.state.Filled.{Filled}
+use Rattle.ring.specs.Drain.{drainRule, drainedInto, laidOut}
+use Rattle.ring.specs.declared.state.DrainedInto.{DrainedInto}
 use Rattle.ring.specs.declared.state.Replay.{Replay}
 use Rattle.bench.proofs.Drain.{again}
 use Rattle.bench.proofs.bench_drain.Statement.{statement}
@@ -35,9 +34,8 @@ returns c =
     let first = c .before .before .before .before .drain-into in
     let l = c .before .loop in
     let start = c .before .before .before .before .before .before .before .before .before .before .before .before .before .before .args .room .now in
-    let ring = c .before .before .before .before .before .before .before .before .before .replay .ensures .0 in
-    (
-      ap (λ (f : Filled). f .count) (l .inv .1 ∙ first .ensures .0) ∙ ap (λ (r : Replay). length (drainRule (r .ring) (length start) .events)) ring,
+    let ring = c .before .before .before .before .before .before .before .before .before .replay .ensures .0 in (
+      ap (λ (f : DrainedInto). f .count) (l .inv .1 ∙ first .ensures .0) ∙ ap (λ (r : Replay). drainedInto (drainRule (r .ring) (length start)) .count) ring,
       (c .before .before .before .before .before .before .before .before .before .replay .ensures .1, l .inv .0 ∙ first .ensures .1 ∙ ap (λ (r : Replay). laidOut (drainRule (r .ring) (length start)) start) ring),
     )
 

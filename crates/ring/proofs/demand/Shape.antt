@@ -7,7 +7,7 @@ use native.Mathlib.Omega.{arith}
 use borrow.Author.Tests.{lt-ltb, le-leb, ne-eqb}
 use lib.ListN.{getD}
 use Rattle.ring.specs.Limits.{leastPages, mostPages, leastSlots, mostSlots, mostDepth, mostCount, stop, bothFlags}
-use Rattle.ring.specs.Shape.{sizeTests, sizeFits, placeTests, placesFit, smallTests, countsSmall, agreeTests, countsAgree, pageTests, pagesFit, heldTests, heldFits, writerFits, readerFits, recordFitsAt, stackFits, wordFitsAt, wordsFit, usedFitsAt, usedFit, numberFits, numbersFit, layoutTests, layoutFits, inShape}
+use Rattle.ring.specs.Shape.{sizeTests, sizeFits, placesFit, countsFit, pagesFit, heldTests, heldFits, writerFits, readerFits, recordFitsAt, stackFits, wordFitsAt, wordsFit, usedFitsAt, usedFit, numberFits, numbersFit, layoutTests, layoutFits, inShape}
 use Rattle.ring.specs.Remember.{History}
 use Rattle.ring.specs.declared.state.PageNo.{PageNo}
 use Rattle.ring.specs.declared.state.WriterPhase.{WriterPhase}
@@ -23,10 +23,7 @@ use Rattle.ring.proofs.invariant.Bounds.{AimFits, BoundsOf}
 use Rattle.ring.proofs.accounts.Laws.{read-le, page-le, committed-taken}
 use Rattle.ring.proofs.bounds.Steps.{words-fit}
 use Rattle.ring.proofs.control.Phase.{placed-le, tail-le, commit-le}
-
--- what the test of two pages asks
-pages-fit : (p q : PageNo) (n : ℕ) → p .0 ≤ n → q .0 ≤ n → pagesFit p q n ≡ true
-pages-fit p q n hp hq = every-each (pageTests p q n) (le-leb (p .0) n hp, (le-leb (q .0) n hq, tt))
+use Rattle.ring.proofs.shape.Laws.{pages-true, places-true, counts-true}
 
 module _ {s : Ring} {h : History} {L : ℕ → ℕ} {pc pt a r0 gap : ℕ} (v : Control s L pc pt) (b : Accounts s h L pc pt a r0 gap) (k : BoundsOf s) where
   abbrev P : ℕ → ℕ
@@ -51,31 +48,21 @@ module _ {s : Ring} {h : History} {L : ℕ → ℕ} {pc pt a r0 gap : ℕ} (v : 
   position-fits = omega (arith, b .sums .read, b .contents .cap (R s) (v .links .cycle .reader))
 
   places-fit : placesFit (s .places) (s .size) ≡ true
-  places-fit =
-      every-each (placeTests (s .places) (s .size)) (
-        le-leb (R s) (N s) (v .links .cycle .reader),
-        (
-          le-leb (T s) (N s) (tail-le v),
-          (
-            le-leb (C s) (N s) (commit-le v),
-            (le-leb (s .places .index) (S s) index-fits, (le-leb (s .places .position) (S s) position-fits, tt)),
-          ),
-        ),
-      )
+  places-fit = places-true (s .places) (s .size) (v .links .cycle .reader) (tail-le v) (commit-le v) index-fits position-fits
 
   -- ---- the reader's phase
 
   phase-fits : (ph : ReaderPhase) → ReaderOk (s .words) (N s) (R s) pc ph → readerFits ph (s .size) ≡ true
   phase-fits reading.Idle o = refl
-  phase-fits (reading.Found p q) o = pages-fit p q (N s) (o .1) (o .3)
-  phase-fits (reading.Ready p q) o = pages-fit p q (N s) (o .1) (o .3)
+  phase-fits (reading.Found p q) o = pages-true p q (N s) (o .1) (o .3)
+  phase-fits (reading.Ready p q) o = pages-true p q (N s) (o .1) (o .3)
 
   -- ---- the stack
 
   moving-fits : (t n : PageNo) → Moving (s .words) (s .used) (N s) (S s) P pc pt (t .0) (n .0) → pagesFit t n (N s) ≡ true
   moving-fits t n o =
       let ht = placed-le v (o .spot .k) (t .0) (o .spot .is) in
-      pages-fit t n (N s) ht (rw (← o .next) (words-fit v k (t .0) ht))
+      pages-true t n (N s) ht (rw (← o .next) (words-fit v k (t .0) ht))
 
   held-fits : (p : PageNo) (j u : ℕ) → Holding (s .numbers) (s .used) (S s) P pc pt (s .counts .committed) (h .readings) (p .0) j u → heldFits p j (s .size) ≡ true
   held-fits p j u o =
@@ -85,7 +72,7 @@ module _ {s : Ring} {h : History} {L : ℕ → ℕ} {pc pt a r0 gap : ℕ} (v : 
   record-fits : (ph : WriterPhase) (u : ℕ) → RecordOk (s .words) (s .used) (N s) (S s) P pc pt ph
       → HeldOk (s .numbers) (s .used) (S s) P pc pt (s .counts .committed) (h .readings) u ph → AimFits (N s) ph → writerFits ph (s .size) ≡ true
   record-fits phase.Want u o q f = refl
-  record-fits (phase.Mark t n) u o q f = pages-fit t n (N s) (placed-le v (o .spot .k) (t .0) (o .spot .is)) f
+  record-fits (phase.Mark t n) u o q f = pages-true t n (N s) (placed-le v (o .spot .k) (t .0) (o .spot .is)) f
   record-fits (phase.Promote t n true) u o q f = moving-fits t n (o .0)
   record-fits (phase.Promote t n false) u o q f = moving-fits t n o
   record-fits (phase.Clear t n) u o q f = moving-fits t n (o .0)
@@ -125,36 +112,8 @@ module _ {s : Ring} {h : History} {L : ℕ → ℕ} {pc pt a r0 gap : ℕ} (v : 
   taken-begun : s .counts .taken + s .counts .dropped ≤ s .counts .begun
   taken-begun = omega (arith, b .balance)
 
-  small : countsSmall (s .counts) ≡ true
-  small =
-      let begun = k .begunFits in
-      let taken = taken-begun in
-      let committed = committed-taken v b in
-      let settled = settled-committed in
-      let c = s .counts in
-      every-each (smallTests c) (
-        le-leb (c .begun) mostCount begun,
-        (
-          le-leb (c .taken) mostCount (omega arith),
-          (
-            le-leb (c .committed) mostCount (omega arith),
-            (
-              le-leb (c .handed) mostCount (omega arith),
-              (le-leb (c .overwritten) mostCount (omega arith), (le-leb (c .dropped) mostCount (omega arith), tt)),
-            ),
-          ),
-        ),
-      )
-
-  agree : countsAgree (s .counts) ≡ true
-  agree =
-      every-each (agreeTests (s .counts)) (
-        le-leb (s .counts .handed + s .counts .overwritten) (s .counts .committed) settled-committed,
-        (
-          le-leb (s .counts .committed) (s .counts .taken) (committed-taken v b),
-          (le-leb (s .counts .taken + s .counts .dropped) (s .counts .begun) taken-begun, tt),
-        ),
-      )
+  counts-fit : countsFit (s .counts) ≡ true
+  counts-fit = counts-true (s .counts) (k .begunFits) settled-committed (committed-taken v b) taken-begun
 
   -- ---- numbers
 
@@ -174,4 +133,4 @@ module _ {s : Ring} {h : History} {L : ℕ → ℕ} {pc pt a r0 gap : ℕ} (v : 
 
   pub invariant-inShape : inShape s ≡ true
   unfolding inShape
-  invariant-inShape = and-both (and-both (and-both small agree) layout) numbers-fit
+  invariant-inShape = and-both (and-both counts-fit layout) numbers-fit

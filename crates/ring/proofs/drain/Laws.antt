@@ -1,45 +1,36 @@
--- What a loop that drains a ring in shape keeps: `Progress`. At its start nothing is done; each turn makes the Reads of the turn, and where the loop ends all is done that the
--- definition asks. A ring that is not in shape then is so by the counts, and the Read that is due gets its refusal.
+-- What a loop that drains a ring in shape keeps: `Progress`. At its start nothing is done; each turn of the loop makes the Reads of a `Turn`, and
+-- where the loop ends all is done that the definition asks. A ring out of shape there is so by its counts alone, and the Read that is due gets
+-- its refusal.
 -- Assumes nothing.
 use mathlib.Core.Path.{_≡_, refl, sym, ap, _∙_, subst}
 use mathlib.Core.Bool.{Bool, true, false, _&&_}
-use mathlib.Core.List.{List, [], _∷_, _++_, append-nil, append-assoc}
-use Prim.Native.Nat.{ℕ, zero, suc, _+_, _-_, _*_, _≤_, _<_}
+use mathlib.Core.List.{List, [], _++_, append-nil, append-assoc}
+use Prim.Native.Nat.{ℕ, zero, suc, _+_, _-_, _≤_, _<_}
 use native.Mathlib.Omega.{arith}
-use borrow.Author.Tests.{leb-true, leb-false, ltb-true, ltb-false}
+use borrow.Author.Tests.{leb-false, ltb-true, ltb-false}
 use lib.Dec.{leb, ltb}
-use lib.ListN.{length, set, length-append, length-drop}
+use lib.ListN.{length, length-append}
 use lib.Seq.{sets}
 use Rattle.ring.specs.State.{withHanded}
 use Rattle.ring.specs.Shape.{inShape}
 use Rattle.ring.specs.Replay.{over}
-use Rattle.ring.specs.Drain.{Drain, stop, drained, mostQuiet, filled, laidOut}
-use Rattle.ring.specs.Turn.{eventsFrom, turnOf, turned, lastAfter}
+use Rattle.ring.specs.Drain.{Drain, noMore, drained, mostInRow, drainedInto, laidOut, eventsFrom, lastAfter}
+use Rattle.ring.specs.Turn.{turnOf, turned}
 use Rattle.ring.specs.declared.state.Ring.{Ring}
 use Rattle.ring.specs.declared.state.Last.{Last}
-use Rattle.ring.specs.declared.state.Last.the-variants.{None, Told}
-use Rattle.ring.specs.declared.state.Filled.{Filled}
+use Rattle.ring.specs.declared.state.Last.the-variants.{None, Given}
+use Rattle.ring.specs.declared.state.DrainedInto.{DrainedInto}
 use Rattle.ring.specs.declared.moves.Turn.{Turn}
 use Rattle.ring.proofs.Lists.{by-bool, length-tabulate}
-use Rattle.ring.proofs.shape.Laws.{InShape, in-shape}
+use Rattle.ring.proofs.shape.Laws.{in-shape}
 use Rattle.ring.proofs.read.Kept.{parts, reshaped}
-use Rattle.ring.proofs.replay.Laws.{sets-over}
-use Rattle.ring.proofs.turn.Laws.{goOn, go-on, befores, handed-fits, Turned, turn-drains}
-
--- ---- a run of stores, and one more
-
-pub sets-more : (xs room : List ℕ) (at x k : ℕ) → k ≡ length xs → sets room at (xs ++ (x ∷ [])) ≡ set (sets room at xs) (at + k) x
-sets-more [] room at x k e =
-    let here : at ≡ at + k = omega arith in
-    ap (λ (j : ℕ). set room j x) here
-sets-more (y ∷ xs) room at x k e =
-    let there : suc at + (k - 1) ≡ at + k = omega arith in
-    sets-more xs (set room at y) (suc at) x (k - 1) (omega arith) ∙ ap (λ (j : ℕ). set (sets (set room at y) (suc at) xs) j x) there
+use Rattle.ring.proofs.replay.Laws.{over-length, sets-over}
+use Rattle.ring.proofs.turn.Laws.{goOn, go-on, beforeAll, handed-fits, Turned, turn-drains}
 
 -- ---- the shape, and how many were handed out
 
 module _ (r : Ring) where
-  -- another number handed out, where the counts agree
+  -- the shape, from that with handed at 0 and counts that agree
   handed-shape : inShape (withHanded 0 r) ≡ true → r .counts .handed + r .counts .overwritten ≤ r .counts .committed → inShape r ≡ true
   handed-shape h le =
       let q = withHanded 0 r in
@@ -62,14 +53,14 @@ module _ (r : Ring) where
 abbrev ended : List ℕ → Ring → Last → Drain
 ended es r last = record { ring = r; events = es; last = last }
 
-abbrev pub filledBy : Ring → Last → ℕ → Filled
-filledBy r last count = record { ring = r; last = last; count = count }
+abbrev pub drainedIntoBy : Ring → Last → ℕ → DrainedInto
+drainedIntoBy r last count = record { ring = r; last = last; count = count }
 
 abbrev whole : Ring → List ℕ → Drain
-whole r room = drained mostQuiet (length room) r None
+whole r room = drained mostInRow (length room) r None
 
-befores-append : (xs ys : List ℕ) (d : Drain) → befores xs (befores ys d) ≡ befores (xs ++ ys) d
-befores-append xs ys d = ap (λ (l : List ℕ). ended l (d .ring) (d .last)) (sym (append-assoc xs ys (d .events)))
+beforeAll-append : (xs ys : List ℕ) (d : Drain) → beforeAll xs (beforeAll ys d) ≡ beforeAll (xs ++ ys) d
+beforeAll-append xs ys d = ap (λ (l : List ℕ). ended l (d .ring) (d .last)) (sym (append-assoc xs ys (d .events)))
 
 -- the ring r0 has become r, the room room0 has become room, `at` elements are laid, and what is left to do is what is left of the drain
 pub record Progress (r0 : Ring) (room0 : List ℕ) (r : Ring) (room : List ℕ) (at left : ℕ) (last : Last) : Type 0 where
@@ -79,9 +70,9 @@ pub record Progress (r0 : Ring) (room0 : List ℕ) (r : Ring) (room : List ℕ) 
   pub within : at ≤ length room0
   pub shape : inShape (withHanded 0 r) ≡ true
   pub agree : r .counts .handed + r .counts .overwritten ≤ r .counts .committed + 1
-  pub rest : whole r0 room0 ≡ befores events (goOn (length room0 - at) left r last)
+  pub rest : whole r0 room0 ≡ beforeAll events (goOn (length room0 - at) left r last)
 
-pub start : (r : Ring) (room : List ℕ) → inShape r ≡ true → Progress r room r room 0 mostQuiet None
+pub start : (r : Ring) (room : List ℕ) → inShape r ≡ true → Progress r room r room 0 mostInRow None
 start r room h =
     let s = in-shape r h in
     let n : length room ≡ length room - 0 = omega arith in
@@ -92,7 +83,7 @@ start r room h =
       within = omega arith;
       shape = none-handed r h;
       agree = omega (arith, s);
-      rest = go-on (length room) r None ∙ ap (λ (k : ℕ). goOn k mostQuiet r None) n;
+      rest = go-on (length room) r None ∙ ap (λ (k : ℕ). goOn k mostInRow r None) n;
     }
 
 module _ {r0 : Ring} {room0 : List ℕ} {r : Ring} {room : List ℕ} {at left : ℕ} {last : Last} (p : Progress r0 room0 r room at left last) where
@@ -100,12 +91,12 @@ module _ {r0 : Ring} {room0 : List ℕ} {r : Ring} {room : List ℕ} {at left : 
   room-length =
       let n = p .count in
       let w = p .within in
-      ap length (p .laid) ∙ simp (length-append, length-drop) (omega arith)
+      ap length (p .laid) ∙ over-length (p .events) room0 (omega arith)
 
   pub in-order : r .counts .handed + r .counts .overwritten ≤ r .counts .committed → inShape r ≡ true
   in-order le = handed-shape r (p .shape) le
 
-  none-left : (k : ℕ) → goOn k 0 r last ≡ stop r last
+  none-left : (k : ℕ) → goOn k 0 r last ≡ noMore r last
   none-left zero = refl
   none-left (suc k) = refl
 
@@ -124,7 +115,7 @@ module _ {r0 : Ring} {room0 : List ℕ} {r : Ring} {room : List ℕ} {at left : 
       t ≡ next →
       r' ≡ turned t r →
       room' ≡ sets room at (eventsFrom (r .numbers) (r .values) (t .from) (t .count)) →
-      Progress r0 room0 r' room' (at + t .count) (t .left) (Told (t .answer))
+      Progress r0 room0 r' room' (at + t .count) (t .left) (Given (t .answer))
   turn-on {r'} {room'} {t} lt some le same ring stores =
       let does = subst (λ (k : Turn). Turned r (length room0 - at) left last k) (sym same) (turn-does lt some le) in
       let es = eventsFrom (r .numbers) (r .values) (t .from) (t .count) in
@@ -145,10 +136,10 @@ module _ {r0 : Ring} {room0 : List ℕ} {r : Ring} {room : List ℕ} {at left : 
         agree = subst (λ (q : Ring). q .counts .handed + q .counts .overwritten ≤ q .counts .committed + 1) (sym ring) (does .agree);
         rest =
             p .rest
-            ∙ ap (befores (p .events)) (does .rest)
-            ∙ befores-append (p .events) es (goOn (length room0 - at - t .count) (t .left) (turned t r) (Told (t .answer)))
-            ∙ ap (λ (i : ℕ). befores (p .events ++ es) (goOn i (t .left) (turned t r) (Told (t .answer)))) k
-            ∙ ap (λ (q : Ring). befores (p .events ++ es) (goOn (length room0 - (at + t .count)) (t .left) q (Told (t .answer)))) (sym ring);
+            ∙ ap (beforeAll (p .events)) (does .rest)
+            ∙ beforeAll-append (p .events) es (goOn (length room0 - at - t .count) (t .left) (turned t r) (Given (t .answer)))
+            ∙ ap (λ (i : ℕ). beforeAll (p .events ++ es) (goOn i (t .left) (turned t r) (Given (t .answer)))) k
+            ∙ ap (λ (q : Ring). beforeAll (p .events ++ es) (goOn (length room0 - (at + t .count)) (t .left) q (Given (t .answer)))) (sym ring);
       }
 
   -- where the loop ends: the room is full, no Read is left, or the ring is out of shape
@@ -158,7 +149,7 @@ module _ {r0 : Ring} {room0 : List ℕ} {r : Ring} {room : List ℕ} {at left : 
       b ≡ ltb 0 left →
       ok ≡ leb (r .counts .handed + r .counts .overwritten) (r .counts .committed) →
       (a && b) && ok ≡ false →
-      goOn (length room0 - at) left r last ≡ stop r (lastAfter (a && b) last)
+      goOn (length room0 - at) left r last ≡ noMore r (lastAfter (a && b) last)
   ends false b ok ea eb eo h =
       let full = ltb-false at (length room0) (sym ea) in
       let n : length room0 - at ≡ 0 = omega arith in
@@ -182,10 +173,10 @@ module _ {r0 : Ring} {room0 : List ℕ} {r : Ring} {room : List ℕ} {at left : 
       b ≡ ltb 0 left →
       ok ≡ leb (r .counts .handed + r .counts .overwritten) (r .counts .committed) →
       (a && b) && ok ≡ false →
-      (filledBy r (lastAfter (a && b) last) at ≡ filled (whole r0 room0)) × (room ≡ laidOut (whole r0 room0) room0)
+      (drainedIntoBy r (lastAfter (a && b) last) at ≡ drainedInto (whole r0 room0)) × (room ≡ laidOut (whole r0 room0) room0)
   finish a b ok ea eb eo h =
       let all : whole r0 room0 ≡ ended (p .events) r (lastAfter (a && b) last) =
-      p .rest ∙ ap (befores (p .events)) (ends a b ok ea eb eo h) ∙ ap (λ (es : List ℕ). ended es r (lastAfter (a && b) last)) (append-nil (p .events)) in (
-        ap (filledBy r (lastAfter (a && b) last)) (p .count) ∙ ap filled (sym all),
+      p .rest ∙ ap (beforeAll (p .events)) (ends a b ok ea eb eo h) ∙ ap (λ (es : List ℕ). ended es r (lastAfter (a && b) last)) (append-nil (p .events)) in (
+        ap (drainedIntoBy r (lastAfter (a && b) last)) (p .count) ∙ ap drainedInto (sym all),
         p .laid ∙ ap (λ (d : Drain). laidOut d room0) (sym all),
       )

@@ -1,53 +1,28 @@
--- Laws of Reads in a row, over rings with the invariant. `Soon k o`: with at most k Reads after the outcome o, one of the answers, that of o included,
--- is an Event, Empty or Busy, and those before it are quiet. Where this is so, Reads in a row end with such an answer, and every limit above k gives the
--- same.
+-- Laws of Reads in a row, over rings with the invariant. `Soon k o`: with at most k Reads after the outcome o, one of the answers, that of o
+-- included, is an Event, Empty or Busy, and those before it are quiet. Where this is so, Reads in a row end with such an answer, and every
+-- limit above k gives the same.
 -- Assumes nothing.
 use mathlib.Core.Path.{_≡_, refl, ap, subst}
-use mathlib.Core.Bool.{true}
 use Prim.Native.Nat.{ℕ, zero, suc, _≤_}
 use native.Mathlib.Omega.{arith}
 use Rattle.ring.specs.Answers.{Outcome}
-use Rattle.ring.specs.Shape.{inShape}
-use Rattle.ring.specs.SetUp.{freshRing}
 use Rattle.ring.specs.Read.{readRule}
-use Rattle.ring.specs.Remember.{History}
-use Rattle.ring.specs.History.{Run, nothing, after}
-use Rattle.ring.specs.Replay.{Reached}
-use Rattle.ring.specs.Drain.{Kind, event, ending, quiet, kindOf, Drain, stop, before, byKind, row, Brought, anEvent, anEmpty, aBusy}
+use Rattle.ring.specs.Drain.{Kind, event, ending, quiet, kindOf, Drain, noMore, before, byKind, row, Brought, anEvent, anEmpty, aBusy}
 use Rattle.ring.specs.declared.state.Answer.{Answer}
 use Rattle.ring.specs.declared.state.Ring.{Ring}
 use Rattle.ring.specs.declared.state.Last.{Last}
-use Rattle.ring.specs.declared.state.Last.the-variants.{Told}
-use Rattle.ring.proofs.demand.Shape.{invariant-inShape}
-use Rattle.ring.proofs.replay.Laws.{after-now}
-use Rattle.ring.proofs.runs.Always.{after-invariant}
-use Rattle.ring.proofs.runs.Fresh.{fresh-invariant}
-use Rattle.ring.proofs.runs.Invariant.{Invariant}
+use Rattle.ring.specs.declared.state.Last.the-variants.{Given}
+use Rattle.ring.proofs.runs.Reached.{RingOk}
 use Rattle.ring.proofs.runs.Read.{read-next}
 
--- ---- rings with the invariant
-
--- with some history
-pub record RingOk (s : Ring) : Type 0 where
-  pub history : History
-  pub all : Invariant s history
-
-pub ok-shape : (s : Ring) → RingOk s → inShape s ≡ true
-ok-shape s g = invariant-inShape (g .all .control) (g .all .accounts) (g .all .bounds)
-
+-- a Read keeps the invariant
 pub ok-read : (s : Ring) → RingOk s → RingOk (readRule s .ring)
 ok-read s g = record { history = _; all = read-next 0 s (g .history) (g .all) }
-
-pub reached-ok : (s : Ring) → Reached s → RingOk s
-reached-ok s h =
-    let start : Run = record { now = freshRing (h .size); past = nothing } in
-    let now : RingOk (after start (h .past) .now) = record { history = _; all = after-invariant (h .past) start (fresh-invariant (h .size) (h .fits)) } in
-    rw (h .reached) (subst RingOk (after-now start (h .past)) now)
 
 -- ---- how soon
 
 pub data Soon : ℕ → Outcome → Type 0 where
-  brought : {k : ℕ} {o : Outcome} → Brought (Told (o .answer)) → Soon k o
+  brought : {k : ℕ} {o : Outcome} → Brought (Given (o .answer)) → Soon k o
   next : {k : ℕ} {o : Outcome} → kindOf (o .answer) ≡ quiet → Soon k (readRule (o .ring)) → Soon (suc k) o
 
 event-not-quiet : (e : ℕ) → event e ≡ quiet → ⊥
@@ -60,7 +35,7 @@ ending-not-quiet q =
     let z : _≡_ {A = ℕ} 0 1 = cc in
     omega arith
 
-not-quiet : {a : Answer} → Brought (Told a) → kindOf a ≡ quiet → ⊥
+not-quiet : {a : Answer} → Brought (Given a) → kindOf a ≡ quiet → ⊥
 not-quiet (anEvent n v) q = event-not-quiet _ q
 not-quiet anEmpty q = ending-not-quiet q
 not-quiet aBusy q = ending-not-quiet q
@@ -71,18 +46,18 @@ not-quiet aBusy q = ending-not-quiet q
 abbrev following : (Ring → Last → Drain) → ℕ → Outcome → Drain
 following later left o =
     byKind (kindOf (o .answer))
-    (later (o .ring) (Told (o .answer)))
-    (stop (o .ring) (Told (o .answer)))
-    (row later left (o .ring) (Told (o .answer)))
+    (later (o .ring) (Given (o .answer)))
+    (noMore (o .ring) (Given (o .answer)))
+    (row later left (o .ring) (Given (o .answer)))
 
 -- any two limits that are not too low
 module _ (later later' : Ring → Last → Drain) (same : (s : Ring) → RingOk s → (last : Last) → later s last ≡ later' s last) where
-  brought-same : (a : Answer) (s : Ring) → RingOk s → Brought (Told a) → (end on on' : Drain)
-      → byKind (kindOf a) (later s (Told a)) end on ≡ byKind (kindOf a) (later' s (Told a)) end on'
+  brought-same : (a : Answer) (s : Ring) → RingOk s → Brought (Given a) → (end on on' : Drain)
+      → byKind (kindOf a) (later s (Given a)) end on ≡ byKind (kindOf a) (later' s (Given a)) end on'
   brought-same a s g b end on on' = go (kindOf a) refl
     where
-      go : (kind : Kind) → kindOf a ≡ kind → byKind kind (later s (Told a)) end on ≡ byKind kind (later' s (Told a)) end on'
-      go (event e) q = ap (before e) (same s g (Told a))
+      go : (kind : Kind) → kindOf a ≡ kind → byKind kind (later s (Given a)) end on ≡ byKind kind (later' s (Given a)) end on'
+      go (event e) q = ap (before e) (same s g (Given a))
       go ending q = refl
       go quiet q = absurd (not-quiet b q)
 
@@ -101,12 +76,12 @@ module _ (later later' : Ring → Last → Drain) (same : (s : Ring) → RingOk 
 
 -- the last answer
 module _ (later : Ring → Last → Drain) (lasts : (s : Ring) → RingOk s → (last : Last) → Brought last → Brought (later s last .last)) where
-  brought-last : (a : Answer) (s : Ring) → RingOk s → Brought (Told a) → (on : Drain)
-      → Brought (byKind (kindOf a) (later s (Told a)) (stop s (Told a)) on .last)
+  brought-last : (a : Answer) (s : Ring) → RingOk s → Brought (Given a) → (on : Drain)
+      → Brought (byKind (kindOf a) (later s (Given a)) (noMore s (Given a)) on .last)
   brought-last a s g b on = go (kindOf a) refl
     where
-      go : (kind : Kind) → kindOf a ≡ kind → Brought (byKind kind (later s (Told a)) (stop s (Told a)) on .last)
-      go (event e) q = lasts s g (Told a) b
+      go : (kind : Kind) → kindOf a ≡ kind → Brought (byKind kind (later s (Given a)) (noMore s (Given a)) on .last)
+      go (event e) q = lasts s g (Given a) b
       go ending q = b
       go quiet q = absurd (not-quiet b q)
 

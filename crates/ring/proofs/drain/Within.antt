@@ -1,6 +1,6 @@
--- Eight Reads in a row never end a drain of a ring that is reached from a fresh one: single Reads bring an Event, Empty or Busy within six. The Read after
--- a swap tells an Event or Empty, since the new reader page is the commit page or is full. A swap does not miss where only Reads were made since the Found.
--- So an idle reader needs at most four Reads, one in READY five, and one in FOUND six.
+-- Eight Reads in a row never end a drain of a ring that is reached from a fresh one: single Reads bring an Event, Empty or Busy within six.
+-- The Read after a swap tells an Event or Empty, since the new reader page is the commit page or is full. A swap does not miss where only
+-- Reads were made since the Found. So an idle reader needs at most four Reads, one in READY five, and one in FOUND six.
 -- Assumes nothing.
 use mathlib.Core.Path.{_≡_, refl, sym, ap, _∙_, subst}
 use mathlib.Core.Logic.{_≢_}
@@ -18,7 +18,7 @@ use Rattle.ring.specs.Words.{readerOnCommit, links, findHeader}
 use Rattle.ring.specs.Shape.{inShape}
 use Rattle.ring.specs.Read.{readLimit, findBy, planReader, prepare, swap, fetched, readRule}
 use Rattle.ring.specs.Replay.{Reached}
-use Rattle.ring.specs.Drain.{Drain, drained, mostQuiet, Brought, anEvent, anEmpty, aBusy, enough, Brings}
+use Rattle.ring.specs.Drain.{Drain, drained, mostInRow, Brought, anEvent, anEmpty, aBusy, enough, Brings}
 use Rattle.ring.specs.declared.state.ReaderPhase.{ReaderPhase}
 use Rattle.ring.specs.declared.state.ReaderPhase.the-variants as reading
 use Rattle.ring.specs.declared.state.Ring.{Ring}
@@ -30,9 +30,10 @@ use Rattle.ring.specs.declared.moves.Fetch.{Fetch}
 use Rattle.ring.specs.declared.moves.Fetch.the-variants as fetch
 use Rattle.ring.proofs.Lists.{by-bool, by-cond}
 use Rattle.ring.proofs.control.Swap.{commit-ahead, h-oldest}
-use Rattle.ring.proofs.drain.Soon.{RingOk, ok-shape, ok-read, reached-ok, Soon, brought, next, row-same, row-brings}
+use Rattle.ring.proofs.drain.Soon.{ok-read, Soon, brought, next, row-same, row-brings}
 use Rattle.ring.proofs.invariant.Order.{N, S, R, C, usedOf, Found, Ready, place}
 use Rattle.ring.proofs.order.Search.{Tells, search-tells}
+use Rattle.ring.proofs.runs.Reached.{RingOk, ok-shape, reached-ok}
 
 -- ---- one Read
 
@@ -156,10 +157,10 @@ module _ (most : ℕ) (fits : enough ≤ most) where
       row-brings (drained most room) (λ s g last b. drained-brings room s g last (λ q. b)) 5 s g (within-six s g) most fits last
 
   -- the same as with the limit of eight
-  drained-same : (room : ℕ) (s : Ring) → RingOk s → (last : Last) → drained most room s last ≡ drained mostQuiet room s last
+  drained-same : (room : ℕ) (s : Ring) → RingOk s → (last : Last) → drained most room s last ≡ drained mostInRow room s last
   drained-same zero s g last = refl
   drained-same (suc room) s g last =
-      row-same (drained most room) (drained mostQuiet room) (drained-same room) 5 s g (within-six s g) most mostQuiet fits (omega arith) last
+      row-same (drained most room) (drained mostInRow room) (drained-same room) 5 s g (within-six s g) most mostInRow fits (omega arith) last
 
 pub reached-brings : (r : Ring) → Reached r → Brings r
 reached-brings r h =
@@ -168,7 +169,7 @@ reached-brings r h =
       within = drained-brings enough (omega arith) 1 r g None (λ q. absurd (omega arith));
       ends = λ room.
           by-cond (λ (d : Drain). Brought (d .last)) (inShape r)
-          (λ fits. drained-brings mostQuiet (omega arith) (suc room) r g None (λ q. absurd (omega arith)))
+          (λ fits. drained-brings mostInRow (omega arith) (suc room) r g None (λ q. absurd (omega arith)))
           (λ fits. absurd (true≢false (sym (ok-shape r g) ∙ fits)));
-      unlimited = λ most room fits. drained-same most fits room r g None;
+      sameAbove = λ most room fits. drained-same most fits room r g None;
     }

@@ -1,75 +1,25 @@
--- What a Read leaves of the shape: a ring in shape of which a Read changed the reader, the read position and the cells that its rule names is in shape, as far as the
--- counts are. First what it tells that a rule applies; then a ring in shape with other pieces that fit; then the cells.
+-- What a Read leaves of the shape: a ring in shape with other pieces that fit is in shape; and the cells that a Read stores to fit.
 -- Assumes nothing.
-use mathlib.Core.Path.{_≡_, refl, sym, ap, _∙_}
-use mathlib.Core.Bool.{Bool, true, false, _&&_}
+use mathlib.Core.Path.{_≡_, refl}
+use mathlib.Core.Bool.{Bool, true}
 use mathlib.Core.List.{List}
 use Prim.Native.Nat.{ℕ, _+_, _*_, _/_, _%_, _≤_, _<_}
 use native.Mathlib.Omega.{arith}
-use borrow.Author.Tests.{ltb-true, le-leb, leb-true, ne-eqb}
-use lib.Dec.{eqb, ltb, leb}
+use borrow.Author.Tests.{le-leb, ne-eqb}
+use lib.Dec.{leb}
 use lib.ListN.{length, getD, set}
 use lib.Seq.{getD-set-same, getD-set-other, set-out}
-use Rattle.ring.specs.Limits.{normal, header, bothFlags}
-use Rattle.ring.specs.State.{page, wordAt, usedAt, withReader, withPlaces, withCounts, withWords, withUsed}
-use Rattle.ring.specs.Words.{pageIn, flagIn, wordOf, readerOnCommit, links, findHeader}
-use Rattle.ring.specs.Shape.{placesFit, countsFit, pageTests, pagesFit, readerFits, wordFits, wordFitsAt, wordsFit, usedFitsAt, usedFit, layoutTests, layoutFits, ringFits, numbersFit, inShape}
-use Rattle.ring.specs.Read.{readLimit, findBy, planReader, planRead}
+use Rattle.ring.specs.Limits.{bothFlags}
+use Rattle.ring.specs.State.{withReader, withPlaces, withCounts, withWords, withUsed}
+use Rattle.ring.specs.Words.{wordOf}
+use Rattle.ring.specs.Shape.{placesFit, countsFit, readerFits, wordFits, wordFitsAt, wordsFit, usedFitsAt, usedFit, layoutTests, layoutFits, ringFits, numbersFit, inShape}
 use Rattle.ring.specs.declared.state.PageNo.{PageNo}
 use Rattle.ring.specs.declared.state.Size.{Size}
 use Rattle.ring.specs.declared.state.Places.{Places}
 use Rattle.ring.specs.declared.state.Counts.{Counts}
 use Rattle.ring.specs.declared.state.Reader.{Reader}
-use Rattle.ring.specs.declared.state.ReaderPhase.{ReaderPhase}
-use Rattle.ring.specs.declared.state.ReaderPhase.the-variants as phase
 use Rattle.ring.specs.declared.state.Ring.{Ring}
-use Rattle.ring.specs.declared.moves.Search.{Search}
-use Rattle.ring.specs.declared.moves.Search.the-variants.{At, Nowhere}
-use Rattle.ring.specs.declared.moves.Fetch.{Fetch}
-use Rattle.ring.specs.declared.moves.Fetch.the-variants.{Event, Empty, Busy, Find, Prepare, Swap, Miss}
-use Rattle.ring.proofs.Lists.{by-eq, by-lt, by-cond, and-left, and-right, and-both, each, every-each, allBelow-at, allBelow-all}
-use Rattle.ring.proofs.order.Search.{Tells, search-tells}
-use Rattle.ring.proofs.shape.Laws.{InShape, pages-fit}
-
--- ---- what it tells that a rule applies
-
--- a ring's two pages
-abbrev Pages : Ring → PageNo → PageNo → Type 0
-Pages r p h = (p .0 ≤ r .size .pages) × (h .0 ≤ r .size .pages)
-
-abbrev pub Planned : Ring → Fetch → Type 0
-Planned r Event = (r .reader .phase ≡ phase.Idle) × (r .places .position < readLimit (r .places) (r .used))
-Planned r Empty = Unit {0}
-Planned r Busy = Unit {0}
-Planned r (Find p h) = Pages r p h
-Planned r (Prepare p h) = Pages r p h
-Planned r (Swap p h) = Pages r p h
-Planned r Miss = Unit {0}
-
-module _ (r : Ring) (s : InShape r) where
-  pub next-fits : (p : ℕ) → p ≤ r .size .pages → pageIn (wordAt (r .words) (page p)) .0 ≤ r .size .pages
-  next-fits p hp =
-      let w = wordAt (r .words) (page p) in
-      leb-true (pageIn w .0) (r .size .pages) (and-left (leb (pageIn w .0) (r .size .pages)) _ (s .word-at p hp))
-
-  find-planned : (found : Search) → Tells (r .words) (r .size .pages) (r .places .reader .0) found → Planned r (findBy found)
-  find-planned (At p h) t = (t .0, rw (t .3) (next-fits (p .0) (t .0)))
-  find-planned Nowhere t = tt
-
-  phase-planned : (ph : ReaderPhase) → r .reader .phase ≡ ph → readerFits ph (r .size) ≡ true → Planned r (planReader ph (r .size) (r .places) (r .words) (r .used))
-  phase-planned phase.Idle e fits =
-      by-cond (Planned r) (ltb (r .places .position) (readLimit (r .places) (r .used)))
-      (λ l. (e, ltb-true (r .places .position) (readLimit (r .places) (r .used)) l))
-      (λ l.
-      by-cond (Planned r) (readerOnCommit (r .places))
-      (λ k. tt)
-      (λ k. find-planned (findHeader (r .words) (r .size .pages) (r .places .reader)) (search-tells (r .words) (r .size .pages) (r .places .reader))))
-  phase-planned (phase.Found p h) e fits = pages-fit p h (r .size .pages) fits
-  phase-planned (phase.Ready p h) e fits =
-      by-cond (Planned r) (links (r .words) p h header) (λ k. pages-fit p h (r .size .pages) fits) (λ k. tt)
-
-  pub planned : Planned r (planRead r)
-  planned = phase-planned (r .reader .phase) refl (s .phase)
+use Rattle.ring.proofs.Lists.{by-eq, by-lt, and-left, and-right, and-both, each, every-each, allBelow-at, allBelow-all}
 
 -- ---- a ring in shape with other pieces that fit
 

@@ -1,17 +1,20 @@
--- What it tells that a Read is allowed, and that what it does on a ring in shape names only pages and slots that the ring has room for.
+-- What it tells that a Read is allowed, and that a rule applies to a ring in shape: an Event's slot lies below the limit, and the pages that a
+-- rule names are pages of the ring.
 -- Assumes nothing.
 use mathlib.Core.Path.{_≡_, refl}
 use mathlib.Core.Bool.{Bool, true, false}
 use Prim.Native.Nat.{ℕ, _≤_, _<_}
 use native.Mathlib.Omega.{arith}
-use borrow.Author.Tests.{ltb-true}
-use lib.Dec.{ltb}
+use borrow.Author.Tests.{ltb-true, leb-true}
+use lib.Dec.{ltb, leb}
 use Rattle.ring.specs.Limits.{header}
 use Rattle.ring.specs.Refusals.{readVerdict}
-use Rattle.ring.specs.Words.{readerOnCommit, links, findHeader}
+use Rattle.ring.specs.State.{page, wordAt}
+use Rattle.ring.specs.Words.{pageIn, readerOnCommit, links, findHeader}
 use Rattle.ring.specs.Shape.{readerFits}
 use Rattle.ring.specs.Read.{readLimit, findBy, planReader, planRead}
 use Rattle.ring.specs.Pieces.{FetchFits, EventFits}
+use Rattle.ring.specs.declared.state.PageNo.{PageNo}
 use Rattle.ring.specs.declared.state.ReaderPhase.{ReaderPhase}
 use Rattle.ring.specs.declared.state.ReaderPhase.the-variants as phase
 use Rattle.ring.specs.declared.state.Ring.{Ring}
@@ -20,8 +23,9 @@ use Rattle.ring.specs.declared.moves.Search.the-variants.{At, Nowhere}
 use Rattle.ring.specs.declared.moves.Fetch.{Fetch}
 use Rattle.ring.specs.declared.moves.Fetch.the-variants.{Event, Empty, Busy, Find, Prepare, Swap, Miss}
 use Rattle.ring.specs.declared.moves.Verdict.the-variants.{Allowed}
-use Rattle.ring.proofs.Lists.{by-cond}
+use Rattle.ring.proofs.Lists.{by-cond, and-left}
 use Rattle.ring.proofs.moves.Laws.{refused-is-not-allowed}
+use Rattle.ring.proofs.order.Search.{Tells, search-tells}
 use Rattle.ring.proofs.shape.Laws.{InShape, pages-fit}
 use Rattle.ring.proofs.state.Laws.{slotIndex-room}
 
@@ -29,45 +33,54 @@ pub allows : (fits : Bool) → readVerdict fits ≡ Allowed → fits ≡ true
 allows false h = absurd (refused-is-not-allowed _ h)
 allows true h = refl
 
--- what a Read does is within the ring: an Event's slot lies below S, and the pages whose words are looked at or stored to are pages of it
-abbrev Within : ℕ → ℕ → ℕ → Fetch → Type 0
-Within position slots pages Event = position < slots
-Within position slots pages Empty = Unit {0}
-Within position slots pages Busy = Unit {0}
-Within position slots pages (Find p h) = Unit {0}
-Within position slots pages (Prepare p h) = h .0 ≤ pages
-Within position slots pages (Swap p h) = p .0 ≤ pages
-Within position slots pages Miss = Unit {0}
+-- ---- what it tells that a rule applies
+
+-- two pages of a ring
+abbrev Pages : Ring → PageNo → PageNo → Type 0
+Pages r p h = (p .0 ≤ r .size .pages) × (h .0 ≤ r .size .pages)
+
+abbrev pub Planned : Ring → Fetch → Type 0
+Planned r Event = (r .reader .phase ≡ phase.Idle) × (r .places .position < readLimit (r .places) (r .used))
+Planned r Empty = Unit {0}
+Planned r Busy = Unit {0}
+Planned r (Find p h) = Pages r p h
+Planned r (Prepare p h) = Pages r p h
+Planned r (Swap p h) = Pages r p h
+Planned r Miss = Unit {0}
 
 module _ (r : Ring) (s : InShape r) where
-  abbrev Here : Fetch → Type 0
-  Here f = Within (r .places .position) (r .size .slots) (r .size .pages) f
-
   pub limit-fits : readLimit (r .places) (r .used) ≤ r .size .slots
   limit-fits =
       let used = s .used-at (r .places .reader .0) (s .reader) in
       by-cond (λ (k : ℕ). k ≤ r .size .slots) (readerOnCommit (r .places)) (λ e. omega (arith, s)) (λ e. omega (arith, s, used))
 
-  find-within : (found : Search) → Here (findBy found)
-  find-within (At p h) = tt
-  find-within Nowhere = tt
+  pub next-fits : (p : ℕ) → p ≤ r .size .pages → pageIn (wordAt (r .words) (page p)) .0 ≤ r .size .pages
+  next-fits p hp =
+      let w = wordAt (r .words) (page p) in
+      leb-true (pageIn w .0) (r .size .pages) (and-left (leb (pageIn w .0) (r .size .pages)) _ (s .word-at p hp))
 
-  phase-within : (ph : ReaderPhase) → readerFits ph (r .size) ≡ true → Here (planReader ph (r .size) (r .places) (r .words) (r .used))
-  phase-within phase.Idle fits =
-      by-cond Here (ltb (r .places .position) (readLimit (r .places) (r .used)))
-      (λ e. omega (arith, ltb-true (r .places .position) (readLimit (r .places) (r .used)) e, limit-fits))
-      (λ e.
-      by-cond Here (readerOnCommit (r .places))
-      (λ e. tt)
-      (λ e. find-within (findHeader (r .words) (r .size .pages) (r .places .reader))))
-  phase-within (phase.Found p h) fits = pages-fit p h (r .size .pages) fits .1
-  phase-within (phase.Ready p h) fits =
-      by-cond Here (links (r .words) p h header) (λ e. pages-fit p h (r .size .pages) fits .0) (λ e. tt)
+  find-planned : (found : Search) → Tells (r .words) (r .size .pages) (r .places .reader .0) found → Planned r (findBy found)
+  find-planned (At p h) t = (t .0, rw (t .3) (next-fits (p .0) (t .0)))
+  find-planned Nowhere t = tt
 
-  within : Here (planRead r)
-  within = phase-within (r .reader .phase) (s .phase)
+  phase-planned : (ph : ReaderPhase) → r .reader .phase ≡ ph → readerFits ph (r .size) ≡ true → Planned r (planReader ph (r .size) (r .places) (r .words) (r .used))
+  phase-planned phase.Idle e fits =
+      by-cond (Planned r) (ltb (r .places .position) (readLimit (r .places) (r .used)))
+      (λ l. (e, ltb-true (r .places .position) (readLimit (r .places) (r .used)) l))
+      (λ l.
+      by-cond (Planned r) (readerOnCommit (r .places))
+      (λ k. tt)
+      (λ k. find-planned (findHeader (r .words) (r .size .pages) (r .places .reader)) (search-tells (r .words) (r .size .pages) (r .places .reader))))
+  phase-planned (phase.Found p h) e fits = pages-fit p h (r .size .pages) fits
+  phase-planned (phase.Ready p h) e fits =
+      by-cond (Planned r) (links (r .words) p h header) (λ k. pages-fit p h (r .size .pages) fits) (λ k. tt)
 
-  fetch-fits : (f : Fetch) → Here f → FetchFits f
+  pub planned : Planned r (planRead r)
+  planned = phase-planned (r .reader .phase) refl (s .phase)
+
+  -- ---- what the code asks
+
+  fetch-fits : (f : Fetch) → Planned r f → FetchFits f
   fetch-fits Event w = tt
   fetch-fits Empty w = tt
   fetch-fits Busy w = tt
@@ -77,9 +90,16 @@ module _ (r : Ring) (s : InShape r) where
   fetch-fits Miss w = tt
 
   pub plan-fits : FetchFits (planRead r)
-  plan-fits = fetch-fits (planRead r) within
+  plan-fits = fetch-fits (planRead r) planned
+
+  -- the position of an Event
+  pub event-here : planRead r ≡ Event → r .places .position < readLimit (r .places) (r .used)
+  event-here e =
+      let p : Planned r Event = rw e at planned in
+      p .1
 
   pub event-fits : EventFits (planRead r) (r .size) (r .places)
   event-fits e =
-      let below : r .places .position < r .size .slots = rw e at within in
+      let below = event-here e in
+      let most = limit-fits in
       slotIndex-room (r .size) (r .places .reader) (r .places .position) (omega (arith, s)) (s .slots-most) (omega (arith, s))

@@ -10,15 +10,12 @@ use lib.ListN.{length, drop, length-append, length-drop}
 use lib.Seq.{append-snoc, sets, sets-eq, take-at, drop-append-add, drop-drop}
 use Rattle.ring.specs.Answers.{Outcome}
 use Rattle.ring.specs.Codes.{numbersOf}
-use Rattle.ring.specs.Shape.{sizeFits, inShape}
-use Rattle.ring.specs.SetUp.{freshRing}
+use Rattle.ring.specs.Shape.{inShape}
 use Rattle.ring.specs.Act.{act}
 use Rattle.ring.specs.Actions.{Decoded, before, stopped, codedAt, decoded, decodedFrom}
-use Rattle.ring.specs.History.{Run, nothing, next, after}
 use Rattle.ring.specs.Change.{changeOf, changed}
 use Rattle.ring.specs.Replay.{ringAfter, answersOf, answerNumbers, laid, over, laidAt, replay, ran, ranRoom, Reached}
 use Rattle.ring.specs.declared.codes.Numbers.{Numbers}
-use Rattle.ring.specs.declared.state.Size.{Size}
 use Rattle.ring.specs.declared.state.Action.{Action}
 use Rattle.ring.specs.declared.state.Answer.{Answer}
 use Rattle.ring.specs.declared.state.Answer.the-variants.{Accepted}
@@ -26,10 +23,7 @@ use Rattle.ring.specs.declared.state.Ring.{Ring}
 use Rattle.ring.specs.declared.actions.Coded.the-variants.{Whole}
 use Rattle.ring.proofs.actions.Laws.{whole-moves, decoded-whole}
 use Rattle.ring.proofs.change.Laws.{Agrees, change-acts}
-use Rattle.ring.proofs.demand.Shape.{invariant-inShape}
-use Rattle.ring.proofs.runs.Always.{after-invariant}
-use Rattle.ring.proofs.runs.Fresh.{fresh-invariant}
-use Rattle.ring.proofs.runs.Invariant.{Invariant}
+use Rattle.ring.proofs.runs.Reached.{reached-shape}
 
 -- ---- a list of actions, and one more
 
@@ -39,10 +33,6 @@ one a = a ∷ []
 after-more : (r : Ring) (done : List Action) (a : Action) → ringAfter r (done ++ one a) ≡ act (ringAfter r done) a .ring
 after-more r [] a = refl
 after-more r (b ∷ done) a = after-more (act r b .ring) done a
-
-after-append : (r : Ring) (past done : List Action) → ringAfter r (past ++ done) ≡ ringAfter (ringAfter r past) done
-after-append r [] done = refl
-after-append r (a ∷ past) done = after-append (act r a .ring) past done
 
 answers-more : (r : Ring) (done : List Action) (a : Action) → answersOf r (done ++ one a) ≡ answersOf r done ++ (act (ringAfter r done) a .answer ∷ [])
 answers-more r [] a = refl
@@ -65,17 +55,18 @@ laid-length r (a ∷ done) =
 
 -- ---- the room
 
+-- a front that fits leaves the room as long as it was
+pub over-length : (front old : List ℕ) → length front ≤ length old → length (over front old) ≡ length old
+over-length front old fits = simp (length-append, length-drop) (omega arith)
+
 -- elements stored after a front that is filled make a longer front
 module _ (front es old : List ℕ) (fits : length front + length es ≤ length old) where
-  filled-length : length (over front old) ≡ length old
-  filled-length = simp (length-append, length-drop) (omega arith)
-
   rest-left : drop (length front + length es) (over front old) ≡ drop (length front + length es) old
   rest-left = drop-append-add front (drop (length front) old) (length es) ∙ drop-drop (length es) (length front) old
 
   pub sets-over : sets (over front old) (length front) es ≡ over (front ++ es) old
   sets-over =
-      sets-eq es (over front old) (length front) (rw filled-length fits)
+      sets-eq es (over front old) (length front) (rw (over-length front old (omega arith)) fits)
       ∙ ap (λ (l : List ℕ). (l ++ es) ++ drop (length front + length es) (over front old)) (take-at front (drop (length front) old) (length front) refl)
       ∙ ap (λ (l : List ℕ). (front ++ es) ++ l) rest-left
       ∙ ap (λ (k : ℕ). (front ++ es) ++ drop k old) (sym (length-append front es))
@@ -86,24 +77,6 @@ lay-more front old n fits =
     let e1 : length front + 1 ≡ suc (length front) = omega arith in
     let e2 : length front + 2 ≡ suc (suc (length front)) = omega arith in
     rw (e1, e2) (sets-over front (three n) old fits)
-
--- ---- a ring that is reached is in shape
-
-pub after-now : (r : Run) (actions : List Action) → after r actions .now ≡ ringAfter (r .now) actions
-after-now r [] = refl
-after-now r (a ∷ rest) = after-now (next r a) rest
-
-fresh-shape : (size : Size) → sizeFits size ≡ true → (actions : List Action) → inShape (ringAfter (freshRing size) actions) ≡ true
-fresh-shape size fits actions =
-    let start : Run = record { now = freshRing size; past = nothing } in
-    let g = after-invariant actions start (fresh-invariant size fits) in
-    subst (λ (r : Ring). inShape r ≡ true) (after-now start actions) (invariant-inShape (g .control) (g .accounts) (g .bounds))
-
-pub reached-shape : (r : Ring) → Reached r → (done : List Action) → inShape (ringAfter r done) ≡ true
-reached-shape r h done =
-    subst (λ (q : Ring). inShape q ≡ true)
-    (after-append (freshRing (h .size)) (h .past) done ∙ ap (λ (q : Ring). ringAfter q done) (sym (h .reached)))
-    (fresh-shape (h .size) (h .fits) (h .past ++ done))
 
 -- ---- the loop
 
@@ -142,7 +115,7 @@ module _ {r0 : Ring} {bytes room0 : List ℕ} {r : Ring} {room : List ℕ} {at m
       let n = front-length in
       let m = p .fewer in
       let l = p .within in
-      ap length (p .answers) ∙ simp (length-append, length-drop) (omega arith)
+      ap length (p .answers) ∙ over-length (laid (answersOf r0 (p .done))) room0 (omega arith)
 
   pub turn :
       {a : Action} {to : ℕ} {r' : Ring} {room' : List ℕ} →

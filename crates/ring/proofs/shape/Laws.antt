@@ -13,12 +13,13 @@ use lib.ListN.{getD}
 use Rattle.ring.specs.Limits.{leastPages, mostPages, leastSlots, mostSlots, mostDepth, mostCount, stop}
 use Rattle.ring.specs.Lists.{allBelow}
 use Rattle.ring.specs.State.{page, usedAt}
-use Rattle.ring.specs.Shape.{sizeTests, placeTests, smallTests, countsSmall, agreeTests, countsAgree, pageTests, pagesFit, heldTests, heldFits, readerFits, recordFitsAt, wordFitsAt, usedFitsAt, numberFits, numbersFit, countsFit, layoutTests, layoutFits, ringFits, inShape}
+use Rattle.ring.specs.Shape.{sizeTests, placeTests, placesFit, smallTests, countsSmall, agreeTests, countsAgree, pageTests, pagesFit, heldTests, heldFits, readerFits, recordFitsAt, wordFitsAt, usedFitsAt, numberFits, numbersFit, countsFit, layoutTests, layoutFits, ringFits, inShape}
 use Rattle.ring.specs.declared.state.PageNo.{PageNo}
 use Rattle.ring.specs.declared.state.Size.{Size}
+use Rattle.ring.specs.declared.state.Places.{Places}
 use Rattle.ring.specs.declared.state.Counts.{Counts}
 use Rattle.ring.specs.declared.state.Ring.{Ring}
-use Rattle.ring.proofs.Lists.{each, and-left, and-right, allBelow-at, all-getD}
+use Rattle.ring.proofs.Lists.{each, every-each, and-left, and-right, and-both, allBelow-at, all-getD}
 
 pub record InShape (r : Ring) : Type 0 where
   pub pages-least : leastPages ≤ r .size .pages
@@ -46,7 +47,59 @@ pub record InShape (r : Ring) : Type 0 where
   pub word-at : (p : ℕ) → p ≤ r .size .pages → wordFitsAt (r .words) (r .size .pages) p ≡ true
   pub used-at : (p : ℕ) → p ≤ r .size .pages → usedAt (r .used) (page p) ≤ r .size .slots
 
--- what it tells that two pages fit, and that a held slot does
+-- ---- what fits, from plain facts
+
+pub pages-true : (p q : PageNo) (n : ℕ) → p .0 ≤ n → q .0 ≤ n → pagesFit p q n ≡ true
+pages-true p q n hp hq = every-each (pageTests p q n) (le-leb (p .0) n hp, (le-leb (q .0) n hq, tt))
+
+pub places-true :
+    (p : Places) (s : Size) →
+    p .reader .0 ≤ s .pages →
+    p .tail .0 ≤ s .pages →
+    p .commit .0 ≤ s .pages →
+    p .index ≤ s .slots →
+    p .position ≤ s .slots →
+    placesFit p s ≡ true
+places-true p s r t c i k =
+    every-each (placeTests p s) (
+      le-leb (p .reader .0) (s .pages) r,
+      (
+        le-leb (p .tail .0) (s .pages) t,
+        (le-leb (p .commit .0) (s .pages) c, (le-leb (p .index) (s .slots) i, (le-leb (p .position) (s .slots) k, tt))),
+      ),
+    )
+
+-- each count is at most begun
+pub counts-true :
+    (c : Counts) →
+    c .begun ≤ mostCount →
+    c .handed + c .overwritten ≤ c .committed →
+    c .committed ≤ c .taken →
+    c .taken + c .dropped ≤ c .begun →
+    countsFit c ≡ true
+counts-true c b h t d =
+    and-both
+    (every-each (smallTests c) (
+      le-leb (c .begun) mostCount b,
+      (
+        le-leb (c .taken) mostCount (omega arith),
+        (
+          le-leb (c .committed) mostCount (omega arith),
+          (
+            le-leb (c .handed) mostCount (omega arith),
+            (le-leb (c .overwritten) mostCount (omega arith), (le-leb (c .dropped) mostCount (omega arith), tt)),
+          ),
+        ),
+      ),
+    ))
+    (every-each (agreeTests c) (
+      le-leb (c .handed + c .overwritten) (c .committed) h,
+      (le-leb (c .committed) (c .taken) t, (le-leb (c .taken + c .dropped) (c .begun) d, tt)),
+    ))
+
+-- ---- what it tells that pieces fit
+
+-- two pages, and a held slot
 pub pages-fit : (p q : PageNo) (n : ℕ) → pagesFit p q n ≡ true → (p .0 ≤ n) × (q .0 ≤ n)
 pages-fit p q n h =
     let e = each (pageTests p q n) h in

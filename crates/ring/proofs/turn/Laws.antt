@@ -1,25 +1,26 @@
--- A turn of a drain, made on a ring in shape by storing its pieces, makes the Reads that the definition makes (`turn-drains`): one for a rule that is no Event's, and for an
--- Event as many as are told. It leaves all of the shape but the counts, and these are at most one off.
+-- A turn of a drain, made on a ring in shape by storing its pieces, makes the Reads that the definition makes (`turn-drains`): one for a rule
+-- that is no Event's, and for an Event as many as are told. It leaves all of the shape but the counts, and handed + overwritten is past
+-- committed by at most one.
 -- Assumes nothing.
 use mathlib.Core.Path.{_≡_, refl, sym, ap, _∙_, subst}
-use mathlib.Core.Bool.{Bool, true, false, cond}
+use mathlib.Core.Bool.{true}
 use mathlib.Core.List.{List, [], _∷_, _++_}
 use Prim.Native.Nat.{ℕ, zero, suc, _+_, _-_, _*_, _≤_, _<_}
 use native.Mathlib.Nat.{mul-le-mul-right}
 use native.Mathlib.Omega.{arith}
-use borrow.Author.Tests.{ltb-true, ltb-false, lt-ltb, le-leb}
+use borrow.Author.Tests.{ltb-true, ltb-false, lt-ltb}
 use lib.Dec.{ltb}
 use lib.ListN.{getD, set}
 use lib.Seq.{append-snoc}
-use Rattle.ring.specs.Limits.{mostPages, mostSlots, slotRoom, mostCount, normal, header}
+use Rattle.ring.specs.Limits.{mostPages, slotRoom, normal, header}
 use Rattle.ring.specs.Lists.{tabulate}
-use Rattle.ring.specs.State.{page, reading, slotIndex, wordAt, placesReader, placesPosition, countsHanded, withReader, withPlaces, withWords, withUsed, withPosition, withHanded}
+use Rattle.ring.specs.State.{reading, slotIndex, wordAt, placesReader, placesPosition, countsHanded, withReader, withPlaces, withWords, withUsed, withPosition, withHanded}
 use Rattle.ring.specs.Words.{pageIn, wordOf}
-use Rattle.ring.specs.Shape.{placeTests, placesFit, smallTests, agreeTests, countsFit, pageTests, pagesFit, readerFits, wordsFit, usedFit, inShape}
-use Rattle.ring.specs.Read.{readLimit, planRead, fetched, readRule}
+use Rattle.ring.specs.Shape.{placesFit, countsFit, readerFits, wordsFit, usedFit, inShape}
+use Rattle.ring.specs.Read.{readLimit, planRead, fetched}
 use Rattle.ring.specs.Pieces.{readAnswer, readPlaces, readPhase, readStores, wordsStored, usedStored, StoresFit}
-use Rattle.ring.specs.Drain.{eventNumber, kindOf, Drain, stop, before, byKind, row, drained, mostQuiet}
-use Rattle.ring.specs.Turn.{eventAt, eventsFrom, smaller, ready, placesBefore, leftAfter, turn, turnOf, turned, TurnFits}
+use Rattle.ring.specs.Drain.{eventNumber, kindOf, Drain, noMore, before, byKind, row, drained, mostInRow, eventAt, eventsFrom}
+use Rattle.ring.specs.Turn.{smaller, eventCount, placesBefore, leftAfter, turn, turnOf, turned, TurnFits}
 use Rattle.ring.specs.declared.state.PageNo.{PageNo}
 use Rattle.ring.specs.declared.state.Places.{Places}
 use Rattle.ring.specs.declared.state.Reader.{Reader}
@@ -28,34 +29,34 @@ use Rattle.ring.specs.declared.state.Answer.the-variants as answer
 use Rattle.ring.specs.declared.state.ReaderPhase.the-variants as phase
 use Rattle.ring.specs.declared.state.Ring.{Ring}
 use Rattle.ring.specs.declared.state.Last.{Last}
-use Rattle.ring.specs.declared.state.Last.the-variants.{Told}
+use Rattle.ring.specs.declared.state.Last.the-variants.{Given}
 use Rattle.ring.specs.declared.moves.Fetch.{Fetch}
 use Rattle.ring.specs.declared.moves.Fetch.the-variants.{Event, Empty, Busy, Find, Prepare, Swap, Miss}
 use Rattle.ring.specs.declared.moves.Turn.{Turn}
-use Rattle.ring.proofs.Lists.{by-cond, every-each, and-both}
-use Rattle.ring.proofs.shape.Laws.{InShape, in-shape}
+use Rattle.ring.proofs.Lists.{by-cond}
+use Rattle.ring.proofs.shape.Laws.{InShape, in-shape, pages-true, places-true, counts-true}
 use Rattle.ring.proofs.state.Laws.{slotIndex-room}
 use Rattle.ring.proofs.pieces.Laws.{read-stores-fit}
-use Rattle.ring.proofs.read.Laws.{limit-fits, plan-fits}
-use Rattle.ring.proofs.read.Kept.{Planned, next-fits, planned, Parts, parts, reshaped, word-fits, set-word, no-used}
+use Rattle.ring.proofs.read.Laws.{Planned, limit-fits, next-fits, planned, plan-fits, event-here}
+use Rattle.ring.proofs.read.Kept.{Parts, parts, reshaped, word-fits, set-word, no-used}
 
 -- ---- what is left of a drain
 
 -- with room for so many elements, and so many Reads before the next Event
 abbrev pub goOn : ℕ → ℕ → Ring → Last → Drain
-goOn zero left r last = stop r last
-goOn (suc room) left r last = row (drained mostQuiet room) left r last
+goOn zero left r last = noMore r last
+goOn (suc room) left r last = row (drained mostInRow room) left r last
 
-pub go-on : (room : ℕ) (r : Ring) (last : Last) → drained mostQuiet room r last ≡ goOn room mostQuiet r last
+pub go-on : (room : ℕ) (r : Ring) (last : Last) → drained mostInRow room r last ≡ goOn room mostInRow r last
 go-on zero r last = refl
 go-on (suc room) r last = refl
 
 -- some events before others
-abbrev pub befores : List ℕ → Drain → Drain
-befores es d = record { ring = d .ring; events = es ++ d .events; last = d .last }
+abbrev pub beforeAll : List ℕ → Drain → Drain
+beforeAll es d = record { ring = d .ring; events = es ++ d .events; last = d .last }
 
-befores-more : (es : List ℕ) (e : ℕ) (d : Drain) → befores es (before e d) ≡ befores (es ++ (e ∷ [])) d
-befores-more es e d = ap (λ (l : List ℕ). record { ring = d .ring; events = l; last = d .last }) (sym (append-snoc es e (d .events)))
+beforeAll-more : (es : List ℕ) (e : ℕ) (d : Drain) → beforeAll es (before e d) ≡ beforeAll (es ++ (e ∷ [])) d
+beforeAll-more es e d = ap (λ (l : List ℕ). record { ring = d .ring; events = l; last = d .last }) (sym (append-snoc es e (d .events)))
 
 -- one Read of a ring in shape
 module _ (q : Ring) (n l : ℕ) (last : Last) where
@@ -65,67 +66,23 @@ module _ (q : Ring) (n l : ℕ) (last : Last) where
       f ≡ planRead q →
       goOn (suc n) (suc l) q last
       ≡ byKind (kindOf (fetched f q .answer))
-      (drained mostQuiet n (fetched f q .ring) (Told (fetched f q .answer)))
-      (stop (fetched f q .ring) (Told (fetched f q .answer)))
-      (row (drained mostQuiet n) l (fetched f q .ring) (Told (fetched f q .answer)))
+      (drained mostInRow n (fetched f q .ring) (Given (fetched f q .answer)))
+      (noMore (fetched f q .ring) (Given (fetched f q .answer)))
+      (row (drained mostInRow n) l (fetched f q .ring) (Given (fetched f q .answer)))
   step shape e = rw (shape, ← e)
 
 -- ---- the pieces that fit
 
 module _ (r : Ring) (s : InShape r) where
   pub handed-fits : (x : ℕ) → x + r .counts .overwritten ≤ r .counts .committed → countsFit (countsHanded x (r .counts)) ≡ true
-  handed-fits x le =
-      let c = r .counts in
-      and-both
-      (every-each (smallTests (countsHanded x c)) (
-        le-leb (c .begun) mostCount (s .begun),
-        (
-          le-leb (c .taken) mostCount (s .taken),
-          (
-            le-leb (c .committed) mostCount (s .committed),
-            (
-              le-leb x mostCount (omega (arith, s)),
-              (le-leb (c .overwritten) mostCount (s .overwritten), (le-leb (c .dropped) mostCount (s .dropped), tt)),
-            ),
-          ),
-        ),
-      ))
-      (every-each (agreeTests (countsHanded x c)) (
-        le-leb (x + c .overwritten) (c .committed) le,
-        (
-          le-leb (c .committed) (c .taken) (s .committed-taken),
-          (le-leb (c .taken + c .dropped) (c .begun) (s .taken-dropped), tt),
-        ),
-      ))
+  handed-fits x le = counts-true (countsHanded x (r .counts)) (s .begun) le (s .committed-taken) (s .taken-dropped)
 
   position-fits : (k : ℕ) → k ≤ r .size .slots → placesFit (placesPosition k (r .places)) (r .size) ≡ true
-  position-fits k le =
-      let p = r .places in
-      every-each (placeTests (placesPosition k p) (r .size)) (
-        le-leb (p .reader .0) (r .size .pages) (s .reader),
-        (
-          le-leb (p .tail .0) (r .size .pages) (s .tail),
-          (
-            le-leb (p .commit .0) (r .size .pages) (s .commit),
-            (le-leb (p .index) (r .size .slots) (s .index), (le-leb k (r .size .slots) le, tt)),
-          ),
-        ),
-      )
+  position-fits k le = places-true (placesPosition k (r .places)) (r .size) (s .reader) (s .tail) (s .commit) (s .index) le
 
   -- a page that becomes the reader page is read from its start
   swap-fits : (h : PageNo) → h .0 ≤ r .size .pages → placesFit (placesReader h (placesPosition 0 (r .places))) (r .size) ≡ true
-  swap-fits h le =
-      let p = r .places in
-      every-each (placeTests (placesReader h (placesPosition 0 p)) (r .size)) (
-        le-leb (h .0) (r .size .pages) le,
-        (
-          le-leb (p .tail .0) (r .size .pages) (s .tail),
-          (
-            le-leb (p .commit .0) (r .size .pages) (s .commit),
-            (le-leb (p .index) (r .size .slots) (s .index), (le-leb 0 (r .size .slots) (omega arith), tt)),
-          ),
-        ),
-      )
+  swap-fits h le = places-true (placesReader h (placesPosition 0 (r .places))) (r .size) le (s .tail) (s .commit) (s .index) (omega arith)
 
 -- ---- Events that stand one after the other
 
@@ -183,12 +140,12 @@ module _ (r : Ring) where
         (j n l : ℕ) (last : Last) →
         inShape (out j r) ≡ true →
         r .places .position + j < readLimit (r .places) (r .used) →
-        goOn (suc n) (suc l) (out j r) last ≡ before (event j) (goOn n mostQuiet (out (suc j) r) (Told (eventAnswer j)))
+        goOn (suc n) (suc l) (out j r) last ≡ before (event j) (goOn n mostInRow (out (suc j) r) (Given (eventAnswer j)))
     one-more j n l last shape lt =
         step (out j r) n l last shape (out-plan j lt)
-        ∙ ap (λ (k : ℕ). before k (drained mostQuiet n (out 1 (out j r)) (Told (eventAnswer j)))) (event-told j)
-        ∙ ap (λ (q : Ring). before (event j) (drained mostQuiet n q (Told (eventAnswer j)))) (out-more j)
-        ∙ ap (before (event j)) (go-on n (out (suc j) r) (Told (eventAnswer j)))
+        ∙ ap (λ (k : ℕ). before k (drained mostInRow n (out 1 (out j r)) (Given (eventAnswer j)))) (event-told j)
+        ∙ ap (λ (q : Ring). before (event j) (drained mostInRow n q (Given (eventAnswer j)))) (out-more j)
+        ∙ ap (before (event j)) (go-on n (out (suc j) r) (Given (eventAnswer j)))
 
     -- j + 1 Events
     run :
@@ -196,7 +153,7 @@ module _ (r : Ring) where
         r .places .position + j < readLimit (r .places) (r .used) →
         j < room →
         r .counts .handed + j + r .counts .overwritten ≤ r .counts .committed →
-        goOn room (suc l) r last ≡ befores (tabulate (suc j) event) (goOn (room - suc j) mostQuiet (out (suc j) r) (Told (eventAnswer j)))
+        goOn room (suc l) r last ≡ beforeAll (tabulate (suc j) event) (goOn (room - suc j) mostInRow (out (suc j) r) (Given (eventAnswer j)))
     run zero room l last lt some agree =
         let most = limit-fits r (in-shape r whole) in
         let n : room ≡ suc (room - 1) = omega arith in
@@ -207,9 +164,9 @@ module _ (r : Ring) where
         let most = limit-fits r (in-shape r whole) in
         let n : room - suc j ≡ suc (room - suc (suc j)) = omega arith in
         run j room l last (omega arith) (omega arith) (omega arith)
-        ∙ ap (λ (k : ℕ). befores (tabulate (suc j) event) (goOn k mostQuiet (out (suc j) r) (Told (eventAnswer j)))) n
-        ∙ ap (befores (tabulate (suc j) event)) (one-more (suc j) (room - suc (suc j)) 7 (Told (eventAnswer j)) (out-shape (suc j) (omega arith) agree) lt)
-        ∙ befores-more (tabulate (suc j) event) (event (suc j)) (goOn (room - suc (suc j)) mostQuiet (out (suc (suc j)) r) (Told (eventAnswer (suc j))))
+        ∙ ap (λ (k : ℕ). beforeAll (tabulate (suc j) event) (goOn k mostInRow (out (suc j) r) (Given (eventAnswer j)))) n
+        ∙ ap (beforeAll (tabulate (suc j) event)) (one-more (suc j) (room - suc (suc j)) (mostInRow - 1) (Given (eventAnswer j)) (out-shape (suc j) (omega arith) agree) lt)
+        ∙ beforeAll-more (tabulate (suc j) event) (event (suc j)) (goOn (room - suc (suc j)) mostInRow (out (suc (suc j)) r) (Given (eventAnswer (suc j))))
 
 -- the smaller of two is at most either, and not 0 if neither is
 smaller-is : (a b : ℕ) → 0 < a → 0 < b → (smaller a b ≤ a) × (smaller a b ≤ b) × (0 < smaller a b)
@@ -227,12 +184,12 @@ pub record Turned (r : Ring) (room left : ℕ) (last : Last) (t : Turn) : Type 0
   -- the Reads that it makes
   pub rest :
       goOn room left r last
-      ≡ befores (eventsFrom (r .numbers) (r .values) (t .from) (t .count)) (goOn (room - t .count) (t .left) (turned t r) (Told (t .answer)))
+      ≡ beforeAll (eventsFrom (r .numbers) (r .values) (t .from) (t .count)) (goOn (room - t .count) (t .left) (turned t r) (Given (t .answer)))
   -- there is room for the Events, and their slots are the reader page's
   pub count : t .count ≤ room
   pub slots : r .places .position + t .count ≤ r .size .slots
   -- it leaves less to do
-  pub less : (room - t .count) * 9 + t .left < room * 9 + left
+  pub less : (room - t .count) * suc mostInRow + t .left < room * suc mostInRow + left
 
 module _ (r : Ring) (whole : inShape r ≡ true) (room left : ℕ) (last : Last) (some : 0 < room) (more : 0 < left) where
   abbrev shaped : InShape r
@@ -257,10 +214,10 @@ module _ (r : Ring) (whole : inShape r ≡ true) (room left : ℕ) (last : Last)
       leaves f (r .places .position) (r .counts .handed) ≡ fetched f r .ring →
       readAnswer f (r .size) (placesBefore (r .places) 0) (r .numbers) (r .values) ≡ fetched f r .answer →
       byKind (kindOf (fetched f r .answer))
-      (drained mostQuiet (room - 1) (fetched f r .ring) (Told (fetched f r .answer)))
-      (stop (fetched f r .ring) (Told (fetched f r .answer)))
-      (row (drained mostQuiet (room - 1)) (left - 1) (fetched f r .ring) (Told (fetched f r .answer)))
-      ≡ goOn (suc (room - 1)) (leftAfter f left) (fetched f r .ring) (Told (fetched f r .answer)) →
+      (drained mostInRow (room - 1) (fetched f r .ring) (Given (fetched f r .answer)))
+      (noMore (fetched f r .ring) (Given (fetched f r .answer)))
+      (row (drained mostInRow (room - 1)) (left - 1) (fetched f r .ring) (Given (fetched f r .answer)))
+      ≡ goOn (suc (room - 1)) (leftAfter f left) (fetched f r .ring) (Given (fetched f r .answer)) →
       leftAfter f left < left →
       inShape (withHanded 0 (turned (with f 0) r)) ≡ true →
       Turned r room left last (with f 0)
@@ -281,9 +238,9 @@ module _ (r : Ring) (whole : inShape r ≡ true) (room left : ℕ) (last : Last)
             ∙ ap (λ (k : ℕ). goOn (suc (room - 1)) k r last) l
             ∙ step r (room - 1) (left - 1) last whole plan
             ∙ kind
-            ∙ ap (λ (k : ℕ). goOn k (leftAfter f left) (fetched f r .ring) (Told (fetched f r .answer))) m
-            ∙ ap (λ (q : Ring). goOn (room - 0) (leftAfter f left) q (Told (fetched f r .answer))) same
-            ∙ ap (λ (a : Answer). goOn (room - 0) (leftAfter f left) (turned (with f 0) r) (Told a)) (sym answer);
+            ∙ ap (λ (k : ℕ). goOn k (leftAfter f left) (fetched f r .ring) (Given (fetched f r .answer))) m
+            ∙ ap (λ (q : Ring). goOn (room - 0) (leftAfter f left) q (Given (fetched f r .answer))) same
+            ∙ ap (λ (a : Answer). goOn (room - 0) (leftAfter f left) (turned (with f 0) r) (Given a)) (sym answer);
         count = omega arith;
         slots = omega (arith, s);
         less = omega arith;
@@ -307,9 +264,6 @@ module _ (r : Ring) (whole : inShape r ≡ true) (room left : ℕ) (last : Last)
   still =
       let s = shaped in
       position-fits r s (r .places .position + 0) (omega (arith, s))
-
-  pages-true : (p h : PageNo) → p .0 ≤ r .size .pages → h .0 ≤ r .size .pages → pagesFit p h (r .size .pages) ≡ true
-  pages-true p h hp hh = every-each (pageTests p h (r .size .pages)) (le-leb (p .0) (r .size .pages) hp, (le-leb (h .0) (r .size .pages) hh, tt))
 
   abbrev fit : Parts (r .size) (r .places) (r .reader) (r .words) (r .used)
   fit = parts r whole
@@ -335,14 +289,14 @@ module _ (r : Ring) (whole : inShape r ≡ true) (room left : ℕ) (last : Last)
         rest =
             ap (λ (n : ℕ). goOn room n r last) l
             ∙ run r whole idle j room (left - 1) last (omega arith) fits (omega arith)
-            ∙ ap (λ (n : ℕ). befores (tabulate (suc j) (event r)) (goOn (room - suc j) mostQuiet (withPosition n (withHanded (r .counts .handed + suc j) r)) (Told (eventAnswer r j)))) p
-            ∙ ap (λ (n : ℕ). befores (tabulate (suc j) (event r)) (goOn (room - suc j) mostQuiet (turned (with Event (suc j)) r) (Told (eventAnswer r n)))) k;
+            ∙ ap (λ (n : ℕ). beforeAll (tabulate (suc j) (event r)) (goOn (room - suc j) mostInRow (withPosition n (withHanded (r .counts .handed + suc j) r)) (Given (eventAnswer r j)))) p
+            ∙ ap (λ (n : ℕ). beforeAll (tabulate (suc j) (event r)) (goOn (room - suc j) mostInRow (turned (with Event (suc j)) r) (Given (eventAnswer r n)))) k;
         count = fits;
         slots = omega arith;
         less = omega arith;
       }
 
-  by-rule : (f : Fetch) → f ≡ planRead r → Planned r f → Turned r room left last (with f (ready f (r .places) (r .counts) (r .used) room))
+  by-rule : (f : Fetch) → f ≡ planRead r → Planned r f → Turned r room left last (with f (eventCount f (r .places) (r .counts) (r .used) room))
   by-rule Event plan h =
       let s = shaped in
       let here = readLimit (r .places) (r .used) - r .places .position in
@@ -359,12 +313,12 @@ module _ (r : Ring) (whole : inShape r ≡ true) (room left : ℕ) (last : Last)
       other Busy plan refl refl refl more (kept (placesBefore (r .places) 0) (r .reader) (r .words) (r .used) still (fit .reader-fits) (fit .words-fit) (fit .used-fit))
   by-rule (Find p q) plan h =
       other (Find p q) plan refl refl refl (omega arith)
-      (kept (placesBefore (r .places) 0) (record { phase = phase.Found p q }) (r .words) (r .used) still (pages-true p q (h .0) (h .1)) (fit .words-fit) (fit .used-fit))
+      (kept (placesBefore (r .places) 0) (record { phase = phase.Found p q }) (r .words) (r .used) still (pages-true p q (r .size .pages) (h .0) (h .1)) (fit .words-fit) (fit .used-fit))
   by-rule (Prepare p q) plan h =
       let w = wordOf (pageIn (wordAt (r .words) q)) header in
       let words = set (r .words) (r .places .reader .0) w in
       other (Prepare p q) plan refl refl refl (omega arith)
-      (kept (placesBefore (r .places) 0) (record { phase = phase.Ready p q }) words (r .used) still (pages-true p q (h .0) (h .1))
+      (kept (placesBefore (r .places) 0) (record { phase = phase.Ready p q }) words (r .used) still (pages-true p q (r .size .pages) (h .0) (h .1))
       (set-word (r .size .pages) (r .words) (r .places .reader .0) w (fit .words-fit)
       (word-fits (r .size .pages) (pageIn (wordAt (r .words) q)) header (next-fits r shaped (q .0) (h .1)) (omega arith)))
       (fit .used-fit))
@@ -385,11 +339,6 @@ module _ (r : Ring) (whole : inShape r ≡ true) (room left : ℕ) (last : Last)
 
   -- ---- what the code asks of the pieces
 
-  here : planRead r ≡ Event → r .places .position < readLimit (r .places) (r .used)
-  here e =
-      let p : Planned r Event = rw e at (planned r shaped) in
-      p .1
-
   pub turn-fits : TurnFits left room (r .size) (r .places) (r .counts) (r .reader) (r .words) (r .used)
   turn-fits =
       let s = shaped in
@@ -401,10 +350,10 @@ module _ (r : Ring) (whole : inShape r ≡ true) (room left : ℕ) (last : Last)
         position = omega (arith, s);
         phase = s .phase;
         fetch = plan-fits r s;
-        events = record { page = omega (arith, s); agree = s .handed-overwritten; committed = s .committed; here = here };
+        events = record { page = omega (arith, s); agree = s .handed-overwritten; committed = s .committed; here = event-here r s };
         few = omega (arith, s);
         event = λ e.
-            let l = here e in
+            let l = event-here r s e in
             let most = limit-fits r s in
             slotIndex-room (r .size) (r .places .reader) _ (omega (arith, s)) (s .slots-most) (omega (arith, s));
       }

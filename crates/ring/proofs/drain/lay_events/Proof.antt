@@ -1,16 +1,14 @@
 -- `drain::lay_events` stores the readings of the slots one after the other: after i turns the first i of them stand in the room. Assumes nothing.
 use mathlib.Core.Path.{_≡_, refl, sym, ap, _∙_}
-use mathlib.Core.List.{List}
-use Prim.Native.Nat.{ℕ, _+_, _*_, _^_, _-_, _≤_, _<_}
+use Prim.Native.Nat.{ℕ, _*_, _^_, _-_, _≤_, _<_}
 use native.Mathlib.Omega.{arith}
 use native.Mathlib.Numerals.{add-one}
 use borrow.Author.Needs.{needs}
 use lib.ListN.{length}
 use lib.Seq.{sets, length-sets}
 use Rattle.ring.specs.Lists.{tabulate}
-use Rattle.ring.specs.Turn.{eventAt, eventsFrom}
-use Rattle.ring.proofs.Lists.{length-tabulate}
-use Rattle.ring.proofs.drain.Laws.{sets-more}
+use Rattle.ring.specs.Drain.{eventAt, eventsFrom}
+use Rattle.ring.proofs.Lists.{length-tabulate, sets-more}
 use Rattle.ring.proofs.drain.lay_events.Statement.{statement}
 use Rattle.ring.proofs.drain.lay_events.Tie as tie
 

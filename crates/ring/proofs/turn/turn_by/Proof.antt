@@ -6,19 +6,19 @@ use Rattle.ring.specs.Limits.{mostSlots}
 use Rattle.ring.proofs.turn.turn_by.Statement.{statement}
 use Rattle.ring.proofs.turn.turn_by.Tie as tie
 
-events-ready-requires : tie.Need-events-ready-requires
-events-ready-requires c κs = rw (c .plan-reader .ensures) (c .before .pre .events)
+event-count-requires : tie.Need-event-count-requires
+event-count-requires c κs = rw (c .plan-reader .ensures) (c .before .pre .events)
 
 -- so many Events, and no more than a page has slots
-few : (c : tie.After-events-ready) → c .before .before .args .places .position + c .events-ready .result ≤ mostSlots
-few c = rw (c .events-ready .ensures, c .before .plan-reader .ensures) (c .before .before .pre .few)
+few : (c : tie.After-event-count) → c .before .before .args .places .position + c .event-count .result ≤ mostSlots
+few c = rw (c .event-count .ensures, c .before .plan-reader .ensures) (c .before .before .pre .few)
 
 places-before-requires : tie.Need-places-before-requires
 places-before-requires c κs = omega (arith, few (c .before))
 
 read-answer-requires : tie.Need-read-answer-requires
 read-answer-requires c κs =
-    rw (c .places-before .ensures, c .before .before .events-ready .ensures, c .before .before .before .plan-reader .ensures)
+    rw (c .places-before .ensures, c .before .before .event-count .ensures, c .before .before .before .plan-reader .ensures)
     (c .before .before .before .before .pre .event)
 
 add-handed : tie.Need-add-handed
@@ -46,7 +46,7 @@ returns c =
       c .before .before .before .before .before .read-answer .ensures,
       c .before .before .before .before .before .before .places-before .ensures,
       c .before .before .before .before .before .before .before .slot-index .ensures,
-      c .before .before .before .before .before .before .before .before .events-ready .ensures,
+      c .before .before .before .before .before .before .before .before .event-count .ensures,
       c .before .before .before .before .before .before .before .before .before .plan-reader .ensures,
     )
 
@@ -55,7 +55,7 @@ turn-by-spec =
     tie.close
     (tie.spec
     (λ c κs. search needs)
-    events-ready-requires
+    event-count-requires
     (λ c κs. search needs)
     places-before-requires
     read-answer-requires

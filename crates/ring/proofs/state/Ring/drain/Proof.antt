@@ -1,6 +1,9 @@
--- `ring::state::Ring::drain` meets its contract: a walk of its MIR, by hand. The room is lent again to `drain_into`, for a lifetime that is made for the call, and comes back at the list that `drain_into` left (`Again.antt`). Then it goes to `front` for good, and the part that `front` hands back goes into the result, beside the ring and the last answer that `drain_into` returned.
--- All that the proof knows of `drain_into` and `front` is that each meets its contract. That the front is within the room, and is the events, holds of any list laid over the front of another.
--- The room is spent, since the result names its lifetime: nothing is had of it at exit. Nothing is kept of the ring that was passed either, since plain data has no last value.
+-- `Ring::drain` meets its contract: a walk of its MIR, by hand. The room is lent again to `drain_into`, for a lifetime that is made for the call,
+-- and comes back at the list that `drain_into` left (`Again.antt`). Then it goes to `front` for good, and the part that `front` hands back goes
+-- into the result, beside the ring and the last answer that `drain_into` returned.
+-- All that the proof knows of `drain_into` and `front` is that each meets its contract. That the front is within the room, and is the events,
+-- holds of any list laid over the front of another. The room is spent, since the result names its lifetime: nothing is had of it at exit. Nothing
+-- is kept of the ring that was passed either, since plain data has no last value.
 -- The walk is over any MIR types for a ring and a last answer, so that neither is spelled out in it.
 -- Assumes nothing.
 use mathlib.Core.Path.{_≡_, refl, sym, _∙_, ap, subst}
@@ -45,15 +48,15 @@ use denote.Triple.Spec.{Meets, tripleOf}
 use denote.Triple.Table.{entered, cited}
 use denote.Triple.Walked.{says, Stays, stay-dropped, walkOf, goes-dropped, goes-spent-slice, Walks, ends-at, walked, walk-meets}
 use denote.Exit.{yes, no}
-use Rattle.ring.specs.Drain.{Drain, drainRule, filled, laidOut}
+use Rattle.ring.specs.Drain.{Drain, drainRule, drainedInto, laidOut}
 use Rattle.ring.specs.declared.state.Ring.{Ring}
-use Rattle.ring.specs.declared.state.Filled.{Filled}
+use Rattle.ring.specs.declared.state.DrainedInto.{DrainedInto}
 use Rattle.ring.specs.declared.drained.Drained.{Drained}
 use Rattle.ring.proofs.state.Ring as R
 use Rattle.ring.proofs.state.Ring.Laws as R′
 use Rattle.ring.proofs.state.Last.Laws as L′
-use Rattle.ring.proofs.state.Filled as F
-use Rattle.ring.proofs.state.Filled.Laws as F′
+use Rattle.ring.proofs.state.DrainedInto as F
+use Rattle.ring.proofs.state.DrainedInto.Laws as F′
 use Rattle.ring.proofs.drained.Drained as T
 use Rattle.ring.proofs.drained.Drained.Laws as T′
 use Rattle.ring.proofs.drained.Again.{LentAgain, lends-again, comes-back}
@@ -76,8 +79,8 @@ use Rattle.ring.proofs.state.Ring.drain.Code.Mir as by-names
 abbrev Part : Ty
 Part = sliceTy (tyRef (named 0) mut (tyInt w64))
 
-abbrev FilledTy : Ty → Ty → Ty
-FilledTy ρ σ = tyStruct (F.struct .name) (tcons ρ (tcons σ (tcons (tyInt w64) tnil)))
+abbrev DrainedIntoTy : Ty → Ty → Ty
+DrainedIntoTy ρ σ = tyStruct (F.struct .name) (tcons ρ (tcons σ (tcons (tyInt w64) tnil)))
 
 abbrev DrainedTy : Ty → Ty → Ty
 DrainedTy ρ σ = tyStruct (T.struct (record { mir = named 0; lft = [] }) .name) (tcons Part (tcons ρ (tcons σ tnil)))
@@ -87,7 +90,7 @@ shape ρ σ = record {
   lifetimes = 1;
   outlives = [];
   params = 2;
-  locals = local (DrainedTy ρ σ) valueLocal ∷ local ρ valueLocal ∷ local Part valueLocal ∷ local (FilledTy ρ σ) valueLocal ∷ drop 4 by-names.by-name-locals;
+  locals = local (DrainedTy ρ σ) valueLocal ∷ local ρ valueLocal ∷ local Part valueLocal ∷ local (DrainedIntoTy ρ σ) valueLocal ∷ drop 4 by-names.by-name-locals;
   body = by-names.by-name-t-1;
 }
 
@@ -131,7 +134,7 @@ module _ {M : Type 1} (𝓤 : URA M) (H : Heap 𝓤) (A : Atoms 𝓤) (W : Given
   s = sliceVal (b, o) (length ys)
 
   abbrev back : Val
-  back = LL.val F.the-type F′.the-laws (filled found)
+  back = LL.val F.the-type F′.the-laws (drainedInto found)
 
   abbrev vals : List Val × (List Val × Unit {0})
   vals = (ring r ∷ [], (s ∷ [], tt))
@@ -160,10 +163,10 @@ module _ {M : Type 1} (𝓤 : URA M) (H : Heap 𝓤) (A : Atoms 𝓤) (W : Given
       nothing ! $ move ! (3 ∷ 0 ∷ []) $ fjoin ! $ move ! (2 ∷ 0 ∷ []) $ fjoin ! $ nothing ! $ move ! (2 ∷ 0 ∷ []) $ join ! $ join ! $ frame ! $ done !
 
   -- of its `ensured`: what it returns, and the room's last list
-  into-said : (ν : ℕ) (δ : GName) (f : Filled) → ent 𝓤 (ensured 𝓤 H A into.ended (into.clauses 𝓤 H A mem run) (ν ∷ [], tt) (r, (x δ ys, tt)) tt f) (guard 𝓤 ((f ≡ filled found) × (length left ≡ length ys)) (sem 𝓤 H A (finally u64 δ left)))
+  into-said : (ν : ℕ) (δ : GName) (f : DrainedInto) → ent 𝓤 (ensured 𝓤 H A into.ended (into.clauses 𝓤 H A mem run) (ν ∷ [], tt) (r, (x δ ys, tt)) tt f) (guard 𝓤 ((f ≡ drainedInto found) × (length left ≡ length ys)) (sem 𝓤 H A (finally u64 δ left)))
   into-said ν δ f =
-      qed W (some (λ (ws : Unit {0} × (List ℕ × Unit {0})). ‵ (lasts into.ended (ν ∷ [], tt) (r, (x δ ys, tt)) ws) ⊛ raw (fact 𝓤 ((f ≡ filled found) × (ws .1 .0 ≡ left)))) ∷ []) ∵ pick ! (λ ws.
-      split ! $ move ! (1 ∷ []) $ heard ! ((f ≡ filled found) × (ws .1 .0 ≡ left)) (λ e. fsplit ! $ move ! (1 ∷ []) $ fsplit ! $ fsplit ! $ move ! (1 ∷ []) $ feqL ! (λ l.
+      qed W (some (λ (ws : Unit {0} × (List ℕ × Unit {0})). ‵ (lasts into.ended (ν ∷ [], tt) (r, (x δ ys, tt)) ws) ⊛ raw (fact 𝓤 ((f ≡ drainedInto found) × (ws .1 .0 ≡ left)))) ∷ []) ∵ pick ! (λ ws.
+      split ! $ move ! (1 ∷ []) $ heard ! ((f ≡ drainedInto found) × (ws .1 .0 ≡ left)) (λ e. fsplit ! $ move ! (1 ∷ []) $ fsplit ! $ fsplit ! $ move ! (1 ∷ []) $ feqL ! (λ l.
       keep ! (0 ∷ []) $ rewrite ! 0 (λ (zs : List ℕ). ‵ (finally u64 δ zs)) (e .1) refl $ check ! (e .0, ap length (sym (e .1)) ∙ l) $ done !)))
 
   -- the call of `front`: the room for good, at the list that `drain_into` left
@@ -183,9 +186,9 @@ module _ {M : Type 1} (𝓤 : URA M) (H : Heap 𝓤) (A : Atoms 𝓤) (W : Given
   front-said p = exE 𝓤 _ (λ ws. snd∗ 𝓤 (sem 𝓤 H A (lasts front.ended (κ, tt) (x γ left, (n, tt)) ws)) (fact 𝓤 ((now p ≡ take n left) × (p .ptr ≡ (b, o)))))
 
   -- of the result: each of its fields is what it is in what the calls returned
-  is-made : (p : RefT (List ℕ)) {w u : Val} → Is F.the-row (filled found) (w ∷ []) → Is (MutSlice (named 0) κ u64) p (u ∷ []) → Is (T.the-row α) (made p) (mach p ∷ [])
+  is-made : (p : RefT (List ℕ)) {w u : Val} → Is F.the-row (drainedInto found) (w ∷ []) → Is (MutSlice (named 0) κ u64) p (u ∷ []) → Is (T.the-row α) (made p) (mach p ∷ [])
   is-made p is is′ =
-      let fields = LL.owed F.the-type F′.the-laws (filled found) _ is in
+      let fields = LL.owed F.the-type F′.the-laws (drainedInto found) _ is in
       LL.owes (T.the-type α) (T′.the-laws α) (made p) (((refl, is′ .0 .1), (tt, tt)), (fields .0, (fields .1 .0, tt)))
 
   -- what is owned of the part, the ring and the last answer is what the result owns
@@ -200,7 +203,7 @@ module _ {M : Type 1} (𝓤 : URA M) (H : Heap 𝓤) (A : Atoms 𝓤) (W : Given
 
   module _ (C : Calls 𝓤 H) (Λ : Loops 𝓤 H) (fm : FmC 𝓤 H (W .laws) C) (known-into : Triple 𝓤 (C #drain-into) (Into 𝓤 H A mem run)) (known-front : Triple 𝓤 (C #front) (Front 𝓤 H A mem run)) (ρ σ : Ty)
       (ring-typed : (h : Ring) (v : Val) → Is R.the-row h (v ∷ []) → Holds (hasTy ρ v) × WT v)
-      (back-typed : (h : Filled) (v : Val) → Is F.the-row h (v ∷ []) → Holds (hasTy (FilledTy ρ σ) v) × WT v)
+      (back-typed : (h : DrainedInto) (v : Val) → Is F.the-row h (v ∷ []) → Holds (hasTy (DrainedIntoTy ρ σ) v) × WT v)
       (made-typed : (h : Drained) (v : Val) → Is (T.the-row α) h (v ∷ []) → Holds (hasTy (DrainedTy ρ σ) v) × WT v) where
     walk : Is R.the-row r (ring r ∷ []) → Room u64 (length ys) → ent 𝓤 (onEntry 𝓤 H A drain.signature (κ, tt) (q, tt) (r, (x γ ys, tt)) vals) (WpFn 𝓤 H C Λ (shape ρ σ) (ring r ∷ s ∷ []) Post)
     walk is-ring room =
@@ -216,19 +219,19 @@ module _ {M : Type 1} (𝓤 : URA M) (H : Heap 𝓤) (A : Atoms 𝓤) (W : Given
         -- [the room, lent; what is kept of it; ν's token; …; …; what the ring owns; _10; …]
         move ! (2 ∷ 5 ∷ 0 ∷ []) $ use3 W (raw (Into 𝓤 H A mem run .pre (to-into ν δ))) (goes-into ν δ) $
         calls-at ! fm (Into 𝓤 H A mem run) known-into (to-into ν δ) (and-then ! (load ! (from ! (stop !)) (look ! 22 refl)) (and-then ! (load ! (from ! (stop !)) (look ! 12 refl)) (no-more !))) (λ w.
-        use1 W (later (some (λ (f : Filled). ((‵ (flft (ν ∷ []) fullShare) ⊛ ‵ ftrue) ⊛ ‵ (F.the-row .own f (w ∷ []))) ⊛ raw (ensured 𝓤 H A into.ended (into.clauses 𝓤 H A mem run) (ν ∷ [], tt) (r, (x δ ys, tt)) tt f)))) (id⊢ 𝓤 _) $ await ! tt $ pick ! (λ f.
-        split ! $ move ! (1 ∷ []) $ use1 W (given ((f ≡ filled found) × (length left ≡ length ys)) (‵ (finally u64 δ left))) (into-said ν δ f) $ learn ! (λ e. move ! (1 ∷ []) $ split ! $ move ! (1 ∷ []) $
+        use1 W (later (some (λ (f : DrainedInto). ((‵ (flft (ν ∷ []) fullShare) ⊛ ‵ ftrue) ⊛ ‵ (F.the-row .own f (w ∷ []))) ⊛ raw (ensured 𝓤 H A into.ended (into.clauses 𝓤 H A mem run) (ν ∷ [], tt) (r, (x δ ys, tt)) tt f)))) (id⊢ 𝓤 _) $ await ! tt $ pick ! (λ f.
+        split ! $ move ! (1 ∷ []) $ use1 W (given ((f ≡ drainedInto found) × (length left ≡ length ys)) (‵ (finally u64 δ left))) (into-said ν δ f) $ learn ! (λ e. move ! (1 ∷ []) $ split ! $ move ! (1 ∷ []) $
         -- [what `drain_into` returned; ν's token; the room's last list; what is kept of the room; …; …; _10; …]
-        rewrite ! 0 (λ (h : Filled). ‵ (F.the-row .own h (w ∷ []))) (e .0) refl $ peeks ! F.the-row (Is F.the-row) (shows 𝓤 H A F.the-row) (filled found) (w ∷ []) (λ is.
-        land ! (from ! (stop !)) (init ! 20 refl (back-typed (filled found) w is)) $
-        use1 W (given (w ∷ [] ≡ back ∷ []) (‵ Own)) (own-open 𝓤 H A W F.the-type F′.the-laws (found .ring, (found .last, (n, tt))) w) $ learn ! (λ we. rewrite ! 20 (λ (u : Val). ‵ (fat fullShare (FilledTy ρ σ) l₃ 0 u)) (ap only we) refl $
+        rewrite ! 0 (λ (h : DrainedInto). ‵ (F.the-row .own h (w ∷ []))) (e .0) refl $ peeks ! F.the-row (Is F.the-row) (shows 𝓤 H A F.the-row) (drainedInto found) (w ∷ []) (λ is.
+        land ! (from ! (stop !)) (init ! 20 refl (back-typed (drainedInto found) w is)) $
+        use1 W (given (w ∷ [] ≡ back ∷ []) (‵ Own)) (own-open 𝓤 H A W F.the-type F′.the-laws (found .ring, (found .last, (n, tt))) w) $ learn ! (λ we. rewrite ! 20 (λ (u : Val). ‵ (fat fullShare (DrainedIntoTy ρ σ) l₃ 0 u)) (ap only we) refl $
         -- the lifetime is ended, and the room comes back at that list
         move ! (1 ∷ []) $ split ! $ lft-end ! tt $ move ! (0 ∷ 4 ∷ 3 ∷ []) $
         use3 W (later (‵ (MutSlice (named 0) κ u64 .own (x γ left) (s ∷ [])) ⊛ ‵ (flft κ q))) (comes-back u64 κ (ν ∷ []) q γ b o 𝓤 H A W (named 0) (named 0) ys δ left room (e .1)) $ await ! tt $ split ! $
         -- `front`. [what the room owns; the token; …; what the fields of `drain_into`'s result own; …; …; _10; …]
         assigns ! (addr ! (from ! (fld ! refl (hop ! (look-in ! 22 (sub ! 0 refl (whole !))) (stop !))))) (from ! (stop !)) (init ! 12 refl (tt, tt)) $
         assigns ! (agg ! (and-then ! (load ! (from ! (stop !)) (look ! 12 refl)) (and-then ! (load ! (from ! (fld ! refl (stop !))) (look-in ! 22 (sub ! 1 refl (whole !)))) (no-more !)))) (from ! (stop !)) (init ! 10 refl (tt, (tt, (record { fits = room .0 }, tt)))) $
-        move ! (1 ∷ 0 ∷ []) $ use2 W (raw (Front 𝓤 H A mem run .pre to-front)) (goes-front (LL.owed F.the-type F′.the-laws (filled found) _ is .1 .1 .0 .1)) $
+        move ! (1 ∷ 0 ∷ []) $ use2 W (raw (Front 𝓤 H A mem run .pre to-front)) (goes-front (LL.owed F.the-type F′.the-laws (drainedInto found) _ is .1 .1 .0 .1)) $
         calls-at ! fm (Front 𝓤 H A mem run) known-front to-front (and-then ! (load ! (from ! (stop !)) (look ! 9 refl)) (and-then ! (load ! (from ! (fld ! refl (stop !))) (look-in ! 19 (sub ! 2 refl (whole !)))) (no-more !))) (λ u.
         use1 W (later (some (λ (p : RefT (List ℕ)). ((‵ (flft κ q) ⊛ ‵ ftrue) ⊛ ‵ (MutSlice (named 0) κ u64 .own p (u ∷ []))) ⊛ raw (ensured 𝓤 H A front.ended (front.clauses 𝓤 H A mem run) (κ, tt) (x γ left, (n, tt)) tt p)))) (id⊢ 𝓤 _) $ await ! tt $ pick ! (λ p.
         split ! $ move ! (1 ∷ []) $ use1 W (raw (fact 𝓤 ((now p ≡ take n left) × (p .ptr ≡ (b, o))))) (front-said p) $ heard ! ((now p ≡ take n left) × (p .ptr ≡ (b, o))) (λ e′. split ! $ move ! (1 ∷ []) $

@@ -1,5 +1,5 @@
--- `Ring::drain_into` is the rule: the Reads of a ring in shape, and the refusal out of it. The code tests all of the shape but the slots' numbers, and those are 32 bits
--- wide. Assumes nothing.
+-- `Ring::drain_into` is the rule: the Reads of a ring in shape, and the refusal out of it. The code tests all of the shape but the slots'
+-- numbers, and those are 32 bits wide. Assumes nothing.
 use mathlib.Core.Path.{_≡_, refl, sym, _∙_}
 use mathlib.Core.Bool.{true, _&&_}
 use Prim.Native.Nat.{ℕ}

@@ -1,22 +1,23 @@
--- `Ring::drain_shaped` makes the Reads of a ring in shape. The loop keeps `Progress` (proofs/drain/Laws): a turn stores its pieces and lays its Events, which is the Reads that
--- the definition makes. The measure counts the room that is left, and the Reads before the next Event. Assumes nothing.
-use mathlib.Core.Path.{_≡_, refl, sym, ap, _∙_, subst}
+-- `Ring::drain_shaped` makes the Reads of a ring in shape. The loop keeps `Progress` (proofs/drain/Laws): a turn stores its pieces and lays its
+-- Events, which is the Reads that the definition makes. The measure counts the room that is left, and the Reads before the next Event. Assumes
+-- nothing.
+use mathlib.Core.Path.{_≡_, refl, sym, _∙_, subst}
 use mathlib.Core.Bool.{true}
-use Prim.Native.Nat.{ℕ, _+_, _*_, _^_, _-_, _≤_, _<_}
+use Prim.Native.Nat.{ℕ, suc, _+_, _*_, _^_, _-_, _≤_, _<_}
 use native.Mathlib.Omega.{arith}
 use borrow.Author.Needs.{needs}
 use borrow.Author.Tests.{ltb-true, leb-true}
-use lib.Dec.{leb, ltb}
+use lib.Dec.{ltb}
 use lib.ListN.{length}
-use lib.Seq.{sets}
 use Rattle.ring.specs.Limits.{slotRoom}
 use Rattle.ring.specs.Shape.{inShape}
 use Rattle.ring.specs.Pieces.{StoresFit}
-use Rattle.ring.specs.Turn.{eventsFrom, turnOf, turned}
+use Rattle.ring.specs.Drain.{mostInRow}
+use Rattle.ring.specs.Turn.{turnOf}
 use Rattle.ring.specs.declared.state.Ring.{Ring}
 use Rattle.ring.specs.declared.moves.Turn.{Turn}
 use Rattle.ring.proofs.Lists.{and-three}
-use Rattle.ring.proofs.shape.Laws.{InShape, in-shape}
+use Rattle.ring.proofs.shape.Laws.{in-shape}
 use Rattle.ring.proofs.turn.Laws.{Turned, turn-fits, turn-stores, turn-slots}
 use Rattle.ring.proofs.drain.Laws.{Progress, start, room-length, in-order, turn-does, turn-on, finish}
 use Rattle.ring.proofs.state.Ring.drain_shaped.Statement.{statement}
@@ -26,7 +27,7 @@ abbrev Inv-loop : tie.InvT-loop
 Inv-loop room₀ self₀ most at₀ left₀ last₀ room self at left last = Progress self₀ room₀ self room at left last
 
 abbrev μ-loop : tie.MeasureT-loop
-μ-loop room₀ self₀ most at₀ left₀ last₀ room self at left last = (most - at) * 9 + left
+μ-loop room₀ self₀ most at₀ left₀ last₀ room self at left last = (most - at) * suc mostInRow + left
 
 -- at most one more is handed out than the counts allow
 agrees-requires : tie.Need-agrees-requires Inv-loop μ-loop

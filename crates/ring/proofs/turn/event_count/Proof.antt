@@ -1,13 +1,13 @@
--- `turn::events_ready` is the definition: the least of three for an Event, and none for another rule. Assumes nothing.
+-- `turn::event_count` is the definition: the least of three for an Event, and none for another rule. Assumes nothing.
 use mathlib.Core.Path.{_≡_, refl}
 use mathlib.Core.List.{[], _∷_}
 use native.Mathlib.Omega.{arith}
 use borrow.Author.Needs.{needs}
-use Rattle.ring.specs.Turn.{ready}
+use Rattle.ring.specs.Turn.{eventCount}
 use Rattle.ring.specs.declared.moves.Fetch.{Fetch}
 use Rattle.ring.proofs.moves.Laws.{fetch-of-numbers}
-use Rattle.ring.proofs.turn.events_ready.Statement.{statement}
-use Rattle.ring.proofs.turn.events_ready.Tie as tie
+use Rattle.ring.proofs.turn.event_count.Statement.{statement}
+use Rattle.ring.proofs.turn.event_count.Tie as tie
 
 sub-here : tie.Need-sub-here
 sub-here c =
@@ -27,12 +27,12 @@ returns c =
 returns-2 : tie.Need-returns-2
 returns-2 c =
     let a = c .before .args in
-    fetch-of-numbers (λ (f : Fetch). 0 ≡ ready f (a .places) (a .counts) (a .used .now) (a .room)) (1 ∷ 2 ∷ 3 ∷ 4 ∷ 5 ∷ 6 ∷ []) (a .f)
+    fetch-of-numbers (λ (f : Fetch). 0 ≡ eventCount f (a .places) (a .counts) (a .used .now) (a .room)) (1 ∷ 2 ∷ 3 ∷ 4 ∷ 5 ∷ 6 ∷ []) (a .f)
     (refl, (refl, ((λ p h. refl), ((λ p h. refl), ((λ p h. refl), (refl, tt))))))
     (c .match .keys2)
 
-pub events-ready-spec : {M : Type 1} → statement M
-events-ready-spec =
+pub event-count-spec : {M : Type 1} → statement M
+event-count-spec =
     tie.close
     (tie.spec
     (λ c. search needs)
