@@ -296,6 +296,13 @@ fn out_of_shape(out: &mut String) -> Result<(), String> {
             return Err("not the same state came back".to_string());
         }
     }
+    for length in [0, 1] {
+        let mut after = ring.clone();
+        let drained = drain::checked(&mut after, &mut [0], length)?;
+        let last = drained.last.map_or("none".to_string(), text::answer);
+        let refused = text::answer(Answer::Refused(Refusal::Shape));
+        fact_line(out, &format!("drain of {length}"), last, refused)?;
+    }
     let receipt = ring.receipt();
     text::receipt(out, &receipt);
     let refused = receipt.refusal == Some(Refusal::Shape);

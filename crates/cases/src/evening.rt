@@ -20,9 +20,9 @@ const MOST_DRAINS: u32 = 1000;
 const TWO_32: u64 = 4294967296;
 
 // What is seen of one drain: the ring, the last answer, how many elements were filled, and how many of them stand in their order.
-struct Seen {
+pub(crate) struct Seen {
     ring: Ring,
-    last: Last,
+    pub(crate) last: Last,
     count: usize,
     in_order: u64,
 }
@@ -74,7 +74,7 @@ fn look_at(part: &mut [u64], from: u64, ring: Ring, last: Last) -> Seen {
 }
 
 // A drain into the room lent: the part that it filled is looked at.
-fn drain_once(ring: Ring, room: &mut [u64], from: u64) -> Seen {
+pub(crate) fn drain_once(ring: Ring, room: &mut [u64], from: u64) -> Seen {
     let d = ring.drain(room);
     look_at(d.part, from, d.ring, d.last)
 }

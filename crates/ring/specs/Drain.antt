@@ -7,6 +7,7 @@ use mathlib.Core.Bool.{Bool, cond}
 use mathlib.Core.List.{List, [], _∷_}
 use Prim.Native.Nat.{ℕ, zero, suc, _+_, _*_, _^_, _≤_}
 use lib.ListN.{length, getD, replicate}
+use Rattle.ring.specs.Limits.{mostInRow}
 use Rattle.ring.specs.Lists.{tabulate}
 use Rattle.ring.specs.State.{reading}
 use Rattle.ring.specs.Answers.{Outcome}
@@ -97,10 +98,6 @@ row later (suc left) r last =
 abbrev pub drained : ℕ → ℕ → Ring → Last → Drain
 drained most zero r last = noMore r last
 drained most (suc room) r last = row (drained most room) most r last
-
--- "eight Reads in a row"
-abbrev pub mostInRow : ℕ
-mostInRow = 8
 
 -- "A ring out of shape gets 1, whatever the buffer's length, with nothing stored and an empty part handed back. Otherwise length 0 means no
 -- Read, the same ring, last answer "none"."

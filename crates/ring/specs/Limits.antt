@@ -31,6 +31,10 @@ mostDepth = 4
 abbrev pub mostCount : ℕ
 mostCount = 4294967295
 
+-- request E2: "or eight Reads in a row have brought none of these and no Event"
+abbrev pub mostInRow : ℕ
+mostInRow = 8
+
 -- "Mode: 0 overwrite, 1 stop"
 abbrev pub overwrite : ℕ
 overwrite = 0

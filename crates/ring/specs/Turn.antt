@@ -7,12 +7,11 @@ use mathlib.Core.Bool.{true, cond}
 use mathlib.Core.List.{List}
 use Prim.Native.Nat.{ℕ, _+_, _-_, _≤_, _<_}
 use lib.Dec.{ltb}
-use Rattle.ring.specs.Limits.{mostPages, mostSlots, mostCount}
+use Rattle.ring.specs.Limits.{mostPages, mostSlots, mostCount, mostInRow}
 use Rattle.ring.specs.State.{placesPosition, withPlaces, withHanded, withReader, withWords, withUsed, slotIndex}
 use Rattle.ring.specs.Shape.{readerFits}
 use Rattle.ring.specs.Read.{readLimit, planReader}
 use Rattle.ring.specs.Pieces.{readAnswer, readPlaces, readPhase, readStores, wordsStored, usedStored, FetchFits, EventFits}
-use Rattle.ring.specs.Drain.{mostInRow}
 use Rattle.ring.specs.declared.state.Size.{Size}
 use Rattle.ring.specs.declared.state.Places.{Places}
 use Rattle.ring.specs.declared.state.Counts.{Counts}

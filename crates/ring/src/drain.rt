@@ -6,10 +6,10 @@ ghost use Prim.Native.Nat.{_+_, _≤_};
 ghost use lib.Dec.{leb};
 ghost use lib.ListN.{length};
 ghost use lib.Seq.{sets};
-ghost use Rattle.ring.specs.Limits.{slotRoom, mostCount};
+ghost use Rattle.ring.specs.Limits.{slotRoom, mostCount, mostInRow};
 ghost use Rattle.ring.specs.State.{reading};
 ghost use Rattle.ring.specs.Shape.{inShape};
-ghost use Rattle.ring.specs.Drain.{eventNumber, eventsFrom, lastAfter, mostInRow, drained, drainRule, drainedInto, laidOut};
+ghost use Rattle.ring.specs.Drain.{eventNumber, eventsFrom, lastAfter, drained, drainRule, drainedInto, laidOut};
 ghost use Rattle.ring.specs.declared.state.Last.the-variants.{None};
 use crate::change::store_used;
 use crate::change::store_words;
@@ -21,14 +21,15 @@ use crate::state::DrainedInto;
 use crate::state::Last;
 use crate::state::Refusal;
 use crate::state::Ring;
-use crate::turn::MOST_IN_ROW;
 use crate::turn::turn_by;
+
+const TWO_32: u64 = 4294967296;
 
 // An Event as it is stored.
 fn event_number(number: u32, value: u32) -> u64
     ensures { λ r. ⌜ r ≡ eventNumber (reading number) value ⌝ }
 {
-    (number as u64) * 4294967296 + (value as u64)
+    (number as u64) * TWO_32 + (value as u64)
 }
 
 // The readings of some slots, from slot `from` on, laid in the room from `at` on.
@@ -78,7 +79,7 @@ impl Ring {
     {
         let most = room.len();
         let mut at: usize = 0;
-        let mut left: u32 = MOST_IN_ROW;
+        let mut left: u32 = Ring::MOST_IN_ROW;
         let mut last = Last::None;
         while (at < most) & (0 < left) & agrees(self.counts) {
             let t = turn_by(

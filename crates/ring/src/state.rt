@@ -203,6 +203,9 @@ impl Ring {
 
     pub const MOST_COUNT: u64 = 4294967295;
 
+    // Reads in a row with no Event, Empty, Busy or refusal, after which a drain ends.
+    pub const MOST_IN_ROW: u32 = 8;
+
     pub const PLAIN_PAGES: u32 = 8;
 
     pub const PLAIN_SLOTS: u32 = 16;

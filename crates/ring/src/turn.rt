@@ -16,10 +16,8 @@ use crate::read::read_limit;
 use crate::state::Counts;
 use crate::state::Places;
 use crate::state::Reader;
+use crate::state::Ring;
 use crate::state::Size;
-
-// After so many Reads in a row with no Event, Empty, Busy or refusal, a drain ends.
-pub const MOST_IN_ROW: u32 = 8;
 
 fn smaller(a: usize, b: usize) -> usize
     ensures { λ r. ⌜ r ≡ smaller a b ⌝ }
@@ -61,13 +59,14 @@ fn left_after(f: Fetch, left: u32) -> u32
     ensures { λ r. ⌜ r ≡ leftAfter f left ⌝ }
 {
     match f {
-        Fetch::Event => MOST_IN_ROW,
+        Fetch::Event => Ring::MOST_IN_ROW,
         Fetch::Empty => 0,
         Fetch::Busy => 0,
         _ => left - 1,
     }
 }
 
+// Which rule applies, how many Events come of it, and what these Reads leave in each piece.
 pub(crate) fn turn_by<'a>(
     left: u32,
     room: usize,

@@ -7,6 +7,7 @@ mod receipts; // the receipt
 
 // what a caller uses
 pub use lines::action_line;
+pub use lines::answer_line;
 pub use lines::commit_line;
 pub use lines::digest_line;
 pub use lines::fresh_line;

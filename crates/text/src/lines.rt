@@ -45,6 +45,14 @@ pub fn number_line(text: &[u8], n: u64) {
     end_line(&mut line, at);
 }
 
+// An answer, under a first column of the caller's.
+pub fn answer_line(text: &[u8], a: Answer) {
+    let mut line = [0u8; ROOM];
+    let mut at = label(&mut line, text);
+    at = answer(&mut line, at, answer_numbers(a));
+    end_line(&mut line, at);
+}
+
 // A digest, with a first column that has a number in it.
 pub fn digest_line(before: &[u8], n: u64, after: &[u8], digest: u32) {
     let mut line = [0u8; ROOM];

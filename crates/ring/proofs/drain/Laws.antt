@@ -14,7 +14,8 @@ use lib.Seq.{sets}
 use Rattle.ring.specs.State.{withHanded}
 use Rattle.ring.specs.Shape.{inShape}
 use Rattle.ring.specs.Replay.{over}
-use Rattle.ring.specs.Drain.{Drain, noMore, drained, mostInRow, drainedInto, laidOut, eventsFrom, lastAfter}
+use Rattle.ring.specs.Limits.{mostInRow}
+use Rattle.ring.specs.Drain.{Drain, noMore, drained, drainedInto, laidOut, eventsFrom, lastAfter}
 use Rattle.ring.specs.Turn.{turnOf, turned}
 use Rattle.ring.specs.declared.state.Ring.{Ring}
 use Rattle.ring.specs.declared.state.Last.{Last}

@@ -10,7 +10,8 @@ use Rattle.ring.specs.Answers.{Outcome, gives}
 use Rattle.ring.specs.Shape.{inShape}
 use Rattle.ring.specs.Read.{readRule}
 use Rattle.ring.specs.Replay.{ringAfter, answersOf, Reached}
-use Rattle.ring.specs.Drain.{Kind, event, ending, quiet, kindOf, Drain, noMore, before, byKind, row, drained, mostInRow, drainRule, eventsAmong, lastOf, Singly}
+use Rattle.ring.specs.Limits.{mostInRow}
+use Rattle.ring.specs.Drain.{Kind, event, ending, quiet, kindOf, Drain, noMore, before, byKind, row, drained, drainRule, eventsAmong, lastOf, Singly}
 use Rattle.ring.specs.declared.state.Action.{Action}
 use Rattle.ring.specs.declared.state.Action.the-variants.{Read}
 use Rattle.ring.specs.declared.state.Refusal.the-variants.{Shape}

@@ -11,14 +11,14 @@ use borrow.Author.Tests.{ltb-false, eqb-true, eqb-false, eq-eqb}
 use lib.Dec.{ltb}
 use lib.ListN.{getD}
 use lib.Seq.{getD-set-other}
-use Rattle.ring.specs.Limits.{header}
+use Rattle.ring.specs.Limits.{header, mostInRow}
 use Rattle.ring.specs.State.{page, withReaderPhase}
 use Rattle.ring.specs.Answers.{Outcome}
 use Rattle.ring.specs.Words.{readerOnCommit, links, findHeader}
 use Rattle.ring.specs.Shape.{inShape}
 use Rattle.ring.specs.Read.{readLimit, findBy, planReader, prepare, swap, fetched, readRule}
 use Rattle.ring.specs.Replay.{Reached}
-use Rattle.ring.specs.Drain.{Drain, drained, mostInRow, Brought, anEvent, anEmpty, aBusy, enough, Brings}
+use Rattle.ring.specs.Drain.{Drain, drained, Brought, anEvent, anEmpty, aBusy, enough, Brings}
 use Rattle.ring.specs.declared.state.ReaderPhase.{ReaderPhase}
 use Rattle.ring.specs.declared.state.ReaderPhase.the-variants as reading
 use Rattle.ring.specs.declared.state.Ring.{Ring}

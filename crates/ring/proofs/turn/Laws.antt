@@ -12,14 +12,14 @@ use borrow.Author.Tests.{ltb-true, ltb-false, lt-ltb}
 use lib.Dec.{ltb}
 use lib.ListN.{getD, set}
 use lib.Seq.{append-snoc}
-use Rattle.ring.specs.Limits.{mostPages, slotRoom, normal, header}
+use Rattle.ring.specs.Limits.{mostPages, slotRoom, normal, header, mostInRow}
 use Rattle.ring.specs.Lists.{tabulate}
 use Rattle.ring.specs.State.{reading, slotIndex, wordAt, placesReader, placesPosition, countsHanded, withReader, withPlaces, withWords, withUsed, withPosition, withHanded}
 use Rattle.ring.specs.Words.{pageIn, wordOf}
 use Rattle.ring.specs.Shape.{placesFit, countsFit, readerFits, wordsFit, usedFit, inShape}
 use Rattle.ring.specs.Read.{readLimit, planRead, fetched}
 use Rattle.ring.specs.Pieces.{readAnswer, readPlaces, readPhase, readStores, wordsStored, usedStored, StoresFit}
-use Rattle.ring.specs.Drain.{eventNumber, kindOf, Drain, noMore, before, byKind, row, drained, mostInRow, eventAt, eventsFrom}
+use Rattle.ring.specs.Drain.{eventNumber, kindOf, Drain, noMore, before, byKind, row, drained, eventAt, eventsFrom}
 use Rattle.ring.specs.Turn.{smaller, eventCount, placesBefore, leftAfter, turn, turnOf, turned, TurnFits}
 use Rattle.ring.specs.declared.state.PageNo.{PageNo}
 use Rattle.ring.specs.declared.state.Places.{Places}

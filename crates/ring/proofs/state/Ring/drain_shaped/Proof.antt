@@ -9,10 +9,9 @@ use borrow.Author.Needs.{needs}
 use borrow.Author.Tests.{ltb-true, leb-true}
 use lib.Dec.{ltb}
 use lib.ListN.{length}
-use Rattle.ring.specs.Limits.{slotRoom}
+use Rattle.ring.specs.Limits.{slotRoom, mostInRow}
 use Rattle.ring.specs.Shape.{inShape}
 use Rattle.ring.specs.Pieces.{StoresFit}
-use Rattle.ring.specs.Drain.{mostInRow}
 use Rattle.ring.specs.Turn.{turnOf}
 use Rattle.ring.specs.declared.state.Ring.{Ring}
 use Rattle.ring.specs.declared.moves.Turn.{Turn}
