@@ -10,7 +10,6 @@ use lib.ListN.{length, getD, replicate}
 use Rattle.ring.specs.Limits.{mostInRow}
 use Rattle.ring.specs.Lists.{tabulate}
 use Rattle.ring.specs.State.{reading}
-use Rattle.ring.specs.Answers.{Outcome}
 use Rattle.ring.specs.Shape.{inShape}
 use Rattle.ring.specs.Read.{readRule}
 use Rattle.ring.specs.Replay.{ringAfter, answersOf, over}

@@ -16,7 +16,7 @@ use Rattle.ring.specs.declared.state.ReaderPhase.{ReaderPhase}
 use Rattle.ring.specs.declared.state.ReaderPhase.the-variants as reading
 use Rattle.ring.specs.declared.state.Ring.{Ring}
 use Rattle.ring.proofs.Lists.{by-eq, and-both, every-each, allBelow-all, all-getD}
-use Rattle.ring.proofs.invariant.Order.{N, S, R, T, C, nextOf, flagOf, usedOf, phaseAt, storedAt, place}
+use Rattle.ring.proofs.invariant.Order.{N, S, R, C, nextOf, flagOf, usedOf, phaseAt, storedAt, place}
 use Rattle.ring.proofs.invariant.Control.{Moving, RecordOk, ReaderOk, Control}
 use Rattle.ring.proofs.invariant.Accounts.{Holding, HeldOk, Accounts}
 use Rattle.ring.proofs.invariant.Bounds.{AimFits, BoundsOf}

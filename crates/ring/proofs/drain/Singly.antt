@@ -2,7 +2,7 @@
 -- (`drain-singly`). So the ring that it leaves is reached where the one that it was given is (`drain-reached`), and what is proved of every list
 -- of actions holds of runs with drains among them. By the definition's own recursion. Assumes nothing.
 use mathlib.Core.Path.{_≡_, refl, ap}
-use mathlib.Core.Bool.{true, false}
+use mathlib.Core.Bool.{false}
 use mathlib.Core.List.{List, [], _∷_}
 use Prim.Native.Nat.{ℕ, zero, suc}
 use lib.ListN.{replicate}
@@ -11,7 +11,7 @@ use Rattle.ring.specs.Shape.{inShape}
 use Rattle.ring.specs.Read.{readRule}
 use Rattle.ring.specs.Replay.{ringAfter, answersOf, Reached}
 use Rattle.ring.specs.Limits.{mostInRow}
-use Rattle.ring.specs.Drain.{Kind, event, ending, quiet, kindOf, Drain, noMore, before, byKind, row, drained, drainRule, eventsAmong, lastOf, Singly}
+use Rattle.ring.specs.Drain.{Kind, event, ending, quiet, kindOf, Drain, noMore, byKind, row, drained, drainRule, eventsAmong, lastOf, Singly}
 use Rattle.ring.specs.declared.state.Action.{Action}
 use Rattle.ring.specs.declared.state.Action.the-variants.{Read}
 use Rattle.ring.specs.declared.state.Refusal.the-variants.{Shape}

@@ -2,7 +2,7 @@
 -- included, is an Event, Empty or Busy, and those before it are quiet. Where this is so, Reads in a row end with such an answer, and every
 -- limit above k gives the same.
 -- Assumes nothing.
-use mathlib.Core.Path.{_≡_, refl, ap, subst}
+use mathlib.Core.Path.{_≡_, refl, ap}
 use Prim.Native.Nat.{ℕ, zero, suc, _≤_}
 use native.Mathlib.Omega.{arith}
 use Rattle.ring.specs.Answers.{Outcome}

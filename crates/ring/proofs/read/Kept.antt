@@ -1,6 +1,6 @@
 -- What a Read leaves of the shape: a ring in shape with other pieces that fit is in shape; and the cells that a Read stores to fit.
 -- Assumes nothing.
-use mathlib.Core.Path.{_≡_, refl}
+use mathlib.Core.Path.{_≡_}
 use mathlib.Core.Bool.{Bool, true}
 use mathlib.Core.List.{List}
 use Prim.Native.Nat.{ℕ, _+_, _*_, _/_, _%_, _≤_, _<_}

@@ -4,7 +4,6 @@
 use mathlib.Core.Path.{_≡_, refl, sym, ap, _∙_, subst}
 use mathlib.Core.Bool.{true}
 use mathlib.Core.List.{List, [], _∷_, _++_}
-use Rattle.ring.specs.Answers.{Outcome}
 use Rattle.ring.specs.Shape.{inShape}
 use Rattle.ring.specs.SetUp.{freshRing}
 use Rattle.ring.specs.Act.{act}
