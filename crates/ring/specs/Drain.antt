@@ -10,6 +10,7 @@ use lib.ListN.{length, getD, replicate}
 use Rattle.ring.specs.Limits.{mostInRow}
 use Rattle.ring.specs.Lists.{tabulate}
 use Rattle.ring.specs.State.{reading}
+use Rattle.ring.specs.Answers.{Outcome}
 use Rattle.ring.specs.Shape.{inShape}
 use Rattle.ring.specs.Read.{readRule}
 use Rattle.ring.specs.Replay.{ringAfter, answersOf, over}
@@ -83,14 +84,18 @@ byKind (event e) later end on = before e later
 byKind ending later end on = end
 byKind quiet later end on = on
 
+-- after a Read with this outcome; both go on from its ring and its answer
+abbrev pub afterRead : (Ring → Last → Drain) → (Ring → Last → Drain) → Outcome → Drain
+afterRead later on o =
+    byKind (kindOf (o .answer))
+    (later (o .ring) (Given (o .answer)))
+    (noMore (o .ring) (Given (o .answer)))
+    (on (o .ring) (Given (o .answer)))
+
 -- Reads in a row, at most `left` of them, until one is not quiet; after an Event the drain goes on as `later` says
 abbrev pub row : (Ring → Last → Drain) → ℕ → Ring → Last → Drain
 row later zero r last = noMore r last
-row later (suc left) r last =
-    byKind (kindOf (readRule r .answer))
-    (later (readRule r .ring) (Given (readRule r .answer)))
-    (noMore (readRule r .ring) (Given (readRule r .answer)))
-    (row later left (readRule r .ring) (Given (readRule r .answer)))
+row later (suc left) r last = afterRead later (row later left) (readRule r)
 
 -- "Reads are made until the buffer is full", of which `room` elements are left, "or an answer is Empty, Busy or a refusal, or" `most` "Reads
 -- in a row have brought none of these and no Event"

@@ -17,6 +17,7 @@ use Rattle.ring.specs.declared.state.Places.{Places}
 use Rattle.ring.specs.declared.state.Counts.{Counts}
 use Rattle.ring.specs.declared.state.Reader.{Reader}
 use Rattle.ring.specs.declared.state.Ring.{Ring}
+use Rattle.ring.specs.declared.state.Last.the-variants.{Given}
 use Rattle.ring.specs.declared.moves.Fetch.{Fetch}
 use Rattle.ring.specs.declared.moves.Fetch.the-variants.{Event, Empty, Busy, Find, Prepare, Swap, Miss}
 use Rattle.ring.specs.declared.moves.Turn.{Turn}
@@ -60,7 +61,7 @@ turn f count left size places counts reader words numbers values =
     record {
       count = count;
       from = slotIndex size (places .reader) (places .position);
-      answer = readAnswer f size (placesBefore places count) numbers values;
+      last = Given (readAnswer f size (placesBefore places count) numbers values);
       left = leftAfter f left;
       handed = counts .handed + count;
       places = readPlaces f (placesBefore places count);

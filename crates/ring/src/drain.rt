@@ -95,24 +95,21 @@ impl Ring {
                 &self.values,
             );
             lay_events(room, at, t.from, t.count, &self.numbers, &self.values);
-            let handed = t.handed;
             let places = t.places;
             let reader = t.reader;
             let stores = t.stores;
-            let answer = t.answer;
-            self.counts.handed = handed;
+            self.counts.handed = t.handed;
             self.places = places;
             self.reader = reader;
             store_words(&mut self.words, stores);
             store_used(&mut self.used, stores);
             at = at + t.count;
             left = t.left;
-            last = Last::Given(answer);
+            last = t.last;
         }
-        let told = last_after((at < most) & (0 < left), last);
         DrainedInto {
             ring: self,
-            last: told,
+            last: last_after((at < most) & (0 < left), last),
             count: at,
         }
     }

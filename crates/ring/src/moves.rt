@@ -2,6 +2,7 @@
 use crate::codes::Numbers;
 use crate::state::Answer;
 use crate::state::Counts;
+use crate::state::Last;
 use crate::state::PageNo;
 use crate::state::Places;
 use crate::state::Reader;
@@ -91,7 +92,7 @@ pub struct Turn {
     pub count: usize,
     pub from: usize,
     // the answer of the last Read
-    pub answer: Answer,
+    pub last: Last,
     // how many Reads may still be made before the next Event
     pub left: u32,
     pub handed: u64,

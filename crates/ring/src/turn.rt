@@ -14,6 +14,7 @@ use crate::pieces::read_stores;
 use crate::read::plan_reader;
 use crate::read::read_limit;
 use crate::state::Counts;
+use crate::state::Last;
 use crate::state::Places;
 use crate::state::Reader;
 use crate::state::Ring;
@@ -95,7 +96,7 @@ pub(crate) fn turn_by<'a>(
     Turn {
         count,
         from,
-        answer,
+        last: Last::Given(answer),
         left: left_then,
         handed,
         places: places_then,

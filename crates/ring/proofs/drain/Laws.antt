@@ -19,7 +19,7 @@ use Rattle.ring.specs.Drain.{Drain, noMore, drained, drainedInto, laidOu
 use Rattle.ring.specs.Turn.{turnOf, turned}
 use Rattle.ring.specs.declared.state.Ring.{Ring}
 use Rattle.ring.specs.declared.state.Last.{Last}
-use Rattle.ring.specs.declared.state.Last.the-variants.{None, Given}
+use Rattle.ring.specs.declared.state.Last.the-variants.{None}
 use Rattle.ring.specs.declared.state.DrainedInto.{DrainedInto}
 use Rattle.ring.specs.declared.moves.Turn.{Turn}
 use Rattle.ring.proofs.Lists.{by-bool, length-tabulate}
@@ -116,7 +116,7 @@ module _ {r0 : Ring} {room0 : List ℕ} {r : Ring} {room : List ℕ} {at left : 
       t ≡ next →
       r' ≡ turned t r →
       room' ≡ sets room at (eventsFrom (r .numbers) (r .values) (t .from) (t .count)) →
-      Progress r0 room0 r' room' (at + t .count) (t .left) (Given (t .answer))
+      Progress r0 room0 r' room' (at + t .count) (t .left) (t .last)
   turn-on {r'} {room'} {t} lt some le same ring stores =
       let does = subst (λ (k : Turn). Turned r (length room0 - at) left last k) (sym same) (turn-does lt some le) in
       let es = eventsFrom (r .numbers) (r .values) (t .from) (t .count) in
@@ -138,9 +138,9 @@ module _ {r0 : Ring} {room0 : List ℕ} {r : Ring} {room : List ℕ} {at left : 
         rest =
             p .rest
             ∙ ap (beforeAll (p .events)) (does .rest)
-            ∙ beforeAll-append (p .events) es (goOn (length room0 - at - t .count) (t .left) (turned t r) (Given (t .answer)))
-            ∙ ap (λ (i : ℕ). beforeAll (p .events ++ es) (goOn i (t .left) (turned t r) (Given (t .answer)))) k
-            ∙ ap (λ (q : Ring). beforeAll (p .events ++ es) (goOn (length room0 - (at + t .count)) (t .left) q (Given (t .answer)))) (sym ring);
+            ∙ beforeAll-append (p .events) es (goOn (length room0 - at - t .count) (t .left) (turned t r) (t .last))
+            ∙ ap (λ (i : ℕ). beforeAll (p .events ++ es) (goOn i (t .left) (turned t r) (t .last))) k
+            ∙ ap (λ (q : Ring). beforeAll (p .events ++ es) (goOn (length room0 - (at + t .count)) (t .left) q (t .last))) (sym ring);
       }
 
   -- where the loop ends: the room is full, no Read is left, or the ring is out of shape

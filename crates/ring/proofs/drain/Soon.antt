@@ -7,7 +7,7 @@ use Prim.Native.Nat.{ℕ, zero, suc, _≤_}
 use native.Mathlib.Omega.{arith}
 use Rattle.ring.specs.Answers.{Outcome}
 use Rattle.ring.specs.Read.{readRule}
-use Rattle.ring.specs.Drain.{Kind, event, ending, quiet, kindOf, Drain, noMore, before, byKind, row, Brought, anEvent, anEmpty, aBusy}
+use Rattle.ring.specs.Drain.{Kind, event, ending, quiet, kindOf, Drain, noMore, before, byKind, afterRead, row, Brought, anEvent, anEmpty, aBusy}
 use Rattle.ring.specs.declared.state.Answer.{Answer}
 use Rattle.ring.specs.declared.state.Ring.{Ring}
 use Rattle.ring.specs.declared.state.Last.{Last}
@@ -44,11 +44,7 @@ not-quiet aBusy q = ending-not-quiet q
 
 -- what follows an outcome: `row later (suc left) r last` is this of the Read of r
 abbrev following : (Ring → Last → Drain) → ℕ → Outcome → Drain
-following later left o =
-    byKind (kindOf (o .answer))
-    (later (o .ring) (Given (o .answer)))
-    (noMore (o .ring) (Given (o .answer)))
-    (row later left (o .ring) (Given (o .answer)))
+following later left o = afterRead later (row later left) o
 
 -- any two limits that are not too low
 module _ (later later' : Ring → Last → Drain) (same : (s : Ring) → RingOk s → (last : Last) → later s last ≡ later' s last) where

@@ -4,15 +4,14 @@
 use mathlib.Core.Path.{_≡_, refl, sym, ap, _∙_, subst}
 use mathlib.Core.Bool.{true}
 use mathlib.Core.List.{List, [], _∷_, _++_, append-nil}
-use Prim.Native.Nat.{ℕ, suc, _+_, _*_, _≤_, _<_}
+use Prim.Native.Nat.{ℕ, suc, _+_, _*_, _≤_}
 use native.Mathlib.Omega.{arith}
 use lib.ListN.{length, drop, length-append, length-drop}
 use lib.Seq.{append-snoc, sets, sets-eq, take-at, drop-append-add, drop-drop}
-use Rattle.ring.specs.Answers.{Outcome}
 use Rattle.ring.specs.Codes.{numbersOf}
 use Rattle.ring.specs.Shape.{inShape}
 use Rattle.ring.specs.Act.{act}
-use Rattle.ring.specs.Actions.{Decoded, before, stopped, codedAt, decoded, decodedFrom}
+use Rattle.ring.specs.Actions.{Decoded, stopped, codedAt, decoded, decodedFrom}
 use Rattle.ring.specs.Change.{changeOf, changed}
 use Rattle.ring.specs.Replay.{ringAfter, answersOf, answerNumbers, laid, over, laidAt, replay, ran, ranRoom, Reached}
 use Rattle.ring.specs.declared.codes.Numbers.{Numbers}
@@ -22,7 +21,7 @@ use Rattle.ring.specs.declared.state.Answer.the-variants.{Accepted}
 use Rattle.ring.specs.declared.state.Ring.{Ring}
 use Rattle.ring.specs.declared.actions.Coded.the-variants.{Whole}
 use Rattle.ring.proofs.actions.Laws.{whole-moves, decoded-whole}
-use Rattle.ring.proofs.change.Laws.{Agrees, change-acts}
+use Rattle.ring.proofs.change.Laws.{change-acts}
 use Rattle.ring.proofs.runs.Reached.{reached-shape}
 
 -- ---- a list of actions, and one more

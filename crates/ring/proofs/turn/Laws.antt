@@ -19,7 +19,7 @@ use Rattle.ring.specs.Words.{pageIn, wordOf}
 use Rattle.ring.specs.Shape.{placesFit, countsFit, readerFits, wordsFit, usedFit, inShape}
 use Rattle.ring.specs.Read.{readLimit, planRead, fetched}
 use Rattle.ring.specs.Pieces.{readAnswer, readPlaces, readPhase, readStores, wordsStored, usedStored, StoresFit}
-use Rattle.ring.specs.Drain.{eventNumber, kindOf, Drain, noMore, before, byKind, row, drained, eventAt, eventsFrom}
+use Rattle.ring.specs.Drain.{eventNumber, Drain, noMore, before, afterRead, row, drained, eventAt, eventsFrom}
 use Rattle.ring.specs.Turn.{smaller, eventCount, placesBefore, leftAfter, turn, turnOf, turned, TurnFits}
 use Rattle.ring.specs.declared.state.PageNo.{PageNo}
 use Rattle.ring.specs.declared.state.Places.{Places}
@@ -64,11 +64,7 @@ module _ (q : Ring) (n l : ℕ) (last : Last) where
       {f : Fetch} →
       inShape q ≡ true →
       f ≡ planRead q →
-      goOn (suc n) (suc l) q last
-      ≡ byKind (kindOf (fetched f q .answer))
-      (drained mostInRow n (fetched f q .ring) (Given (fetched f q .answer)))
-      (noMore (fetched f q .ring) (Given (fetched f q .answer)))
-      (row (drained mostInRow n) l (fetched f q .ring) (Given (fetched f q .answer)))
+      goOn (suc n) (suc l) q last ≡ afterRead (drained mostInRow n) (row (drained mostInRow n) l) (fetched f q)
   step shape e = rw (shape, ← e)
 
 -- ---- the pieces that fit
@@ -184,7 +180,7 @@ pub record Turned (r : Ring) (room left : ℕ) (last : Last) (t : Turn) : Type 0
   -- the Reads that it makes
   pub rest :
       goOn room left r last
-      ≡ beforeAll (eventsFrom (r .numbers) (r .values) (t .from) (t .count)) (goOn (room - t .count) (t .left) (turned t r) (Given (t .answer)))
+      ≡ beforeAll (eventsFrom (r .numbers) (r .values) (t .from) (t .count)) (goOn (room - t .count) (t .left) (turned t r) (t .last))
   -- there is room for the Events, and their slots are the reader page's
   pub count : t .count ≤ room
   pub slots : r .places .position + t .count ≤ r .size .slots
@@ -213,10 +209,7 @@ module _ (r : Ring) (whole : inShape r ≡ true) (room left : ℕ) (last : Last)
       f ≡ planRead r →
       leaves f (r .places .position) (r .counts .handed) ≡ fetched f r .ring →
       readAnswer f (r .size) (placesBefore (r .places) 0) (r .numbers) (r .values) ≡ fetched f r .answer →
-      byKind (kindOf (fetched f r .answer))
-      (drained mostInRow (room - 1) (fetched f r .ring) (Given (fetched f r .answer)))
-      (noMore (fetched f r .ring) (Given (fetched f r .answer)))
-      (row (drained mostInRow (room - 1)) (left - 1) (fetched f r .ring) (Given (fetched f r .answer)))
+      afterRead (drained mostInRow (room - 1)) (row (drained mostInRow (room - 1)) (left - 1)) (fetched f r)
       ≡ goOn (suc (room - 1)) (leftAfter f left) (fetched f r .ring) (Given (fetched f r .answer)) →
       leftAfter f left < left →
       inShape (withHanded 0 (turned (with f 0) r)) ≡ true →
