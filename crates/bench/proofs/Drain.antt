@@ -5,16 +5,17 @@ use mathlib.Core.List.{List, _++_}
 use Prim.Native.Nat.{ℕ}
 use lib.ListN.{length, drop}
 use lib.Seq.{drop-append-seam}
-use Rattle.ring.specs.Replay.{over}
-use Rattle.ring.specs.Drain.{drainRule, drainedInto, laidOut}
-use Rattle.ring.specs.declared.state.Ring.{Ring}
+use Rattle.rules.specs.Replay.{over}
+use Rattle.rules.specs.Drain.{drainRule}
+use Rattle.ring.specs.Held.{drainedInto, laidOut}
+use Rattle.rules.specs.declared.state.State.{State}
 use Rattle.ring.specs.declared.state.DrainedInto.{DrainedInto}
 
 over-again : (front old : List ℕ) → over front (over front old) ≡ over front old
 over-again front old = ap (λ (l : List ℕ). front ++ l) (drop-append-seam front (drop (length front) old))
 
 -- after the drain of a ring into `start`, one more into what that left
-module _ (ring : Ring) (start : List ℕ) {room room' : List ℕ} {made made' : DrainedInto} where
+module _ (ring : State) (start : List ℕ) {room room' : List ℕ} {made made' : DrainedInto} where
   pub again :
       made ≡ drainedInto (drainRule ring (length start)) →
       room ≡ laidOut (drainRule ring (length start)) start →

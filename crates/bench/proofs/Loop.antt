@@ -3,17 +3,18 @@
 use mathlib.Core.Path.{_≡_, ap, _∙_}
 use Prim.Native.Nat.{ℕ, suc, _+_}
 use native.Mathlib.Omega.{arith}
-use Rattle.ring.specs.Answers.{Outcome, outcome}
+use Rattle.rules.specs.Answers.{Outcome}
+use Rattle.ring.specs.Held.{stateOf, outcome}
 use Rattle.ring.specs.declared.state.Step.{Step}
 use Rattle.bench.specs.Loop.{nextOn, ran, handedAfter}
 
 -- where s is the step of the first i actions, what comes next on its ring is that of the first i + 1
-pub ran-next : {s : Step} {o : Outcome} (i : ℕ) → outcome s ≡ ran i → o ≡ nextOn (s .ring) i → o ≡ ran (i + 1)
+pub ran-next : {s : Step} {o : Outcome} (i : ℕ) → outcome s ≡ ran i → o ≡ nextOn (stateOf (s .ring)) i → o ≡ ran (i + 1)
 unfolding ran
 ran-next i here next =
     let one : suc i ≡ i + 1 = omega arith in
     next ∙ ap (λ (q : Outcome). nextOn (q .ring) i) here ∙ ap ran one
 
 -- .. and after all of them the step's handed is what the definition says
-pub handed-at : {s : Step} (i k : ℕ) → outcome s ≡ ran i → i ≡ k → s .ring .counts .handed ≡ handedAfter k
+pub handed-at : {s : Step} (i k : ℕ) → outcome s ≡ ran i → i ≡ k → stateOf (s .ring) .counts .handed ≡ handedAfter k
 handed-at i k here done = ap (λ (q : Outcome). q .ring .counts .handed) (here ∙ ap ran done)

@@ -3,18 +3,18 @@
 use mathlib.Core.Bool.{cond}
 use Prim.Native.Nat.{ℕ, zero, suc}
 use lib.Dec.{ltb}
-use Rattle.ring.specs.Answers.{Outcome}
-use Rattle.ring.specs.SetUp.{freshRule}
-use Rattle.ring.specs.Act.{act}
-use Rattle.ring.specs.declared.state.Action.{Action}
-use Rattle.ring.specs.declared.state.Action.the-variants.{Begin, Write, Read}
-use Rattle.ring.specs.declared.state.Ring.{Ring}
+use Rattle.rules.specs.Answers.{Outcome}
+use Rattle.rules.specs.SetUp.{freshRule}
+use Rattle.rules.specs.Act.{act}
+use Rattle.rules.specs.declared.state.Action.{Action}
+use Rattle.rules.specs.declared.state.Action.the-variants.{Begin, Write, Read}
+use Rattle.rules.specs.declared.state.State.{State}
 
 -- a Write while a writer is at work, then Reads until nothing waits, then a Begin
 abbrev pub nextAction : ℕ → ℕ → ℕ → ℕ → Action
 nextAction depth handed committed value = cond (ltb 0 depth) Write (cond (ltb handed committed) Read (Begin value))
 
-abbrev pub nextOn : Ring → ℕ → Outcome
+abbrev pub nextOn : State → ℕ → Outcome
 nextOn r i = act r (nextAction (r .depth) (r .counts .handed) (r .counts .committed) i)
 
 -- the outcome of the first k actions

@@ -2,7 +2,8 @@
 // of a trace, in place; and the drain of the ring that a trace leaves, in place.
 ghost use mathlib.Core.Path.{_≡_};
 ghost use lib.ListN.{length};
-ghost use Rattle.ring.specs.Drain.{drainRule, drainedInto, laidOut};
+ghost use Rattle.rules.specs.Drain.{drainRule};
+ghost use Rattle.ring.specs.Held.{stateOf, drainedInto, laidOut};
 ghost use Rattle.bench.specs.Loop.{nextAction, handedAfter};
 ghost use Rattle.trace.specs.Header.{firstAction};
 ghost use Rattle.trace.specs.Replays.{replayedFrom, roomFrom};
@@ -82,9 +83,9 @@ pub extern "C" fn bench_drain(
     room: &mut [u64],
     turns: u32,
 ) -> usize
-    ensures { λ r. ⌜ r ≡ drainedInto (drainRule (replayedFrom (now (bytes .entry)) firstAction (now (answers .entry)) .ring) (length (now (room .entry)))) .count ⌝ }
+    ensures { λ r. ⌜ r ≡ drainedInto (drainRule (stateOf (replayedFrom (now (bytes .entry)) firstAction (now (answers .entry)) .ring)) (length (now (room .entry)))) .count ⌝ }
     ensures { λ _. ⌜ now (answers .exit) ≡ roomFrom (now (bytes .entry)) firstAction (now (answers .entry)) ⌝ }
-    ensures { λ _. ⌜ now (room .exit) ≡ laidOut (drainRule (replayedFrom (now (bytes .entry)) firstAction (now (answers .entry)) .ring) (length (now (room .entry)))) (now (room .entry)) ⌝ }
+    ensures { λ _. ⌜ now (room .exit) ≡ laidOut (drainRule (stateOf (replayedFrom (now (bytes .entry)) firstAction (now (answers .entry)) .ring)) (length (now (room .entry)))) (now (room .entry)) ⌝ }
 {
     let run = trace::replay(bytes, answers);
     let ring = run.ring;

@@ -10,12 +10,12 @@ use crate::writers::reader_phase;
 use crate::writers::writer_phase;
 use ring::PageNo;
 use ring::Ring;
-use ring::state::Counts;
-use ring::state::Places;
-use ring::state::Reader;
-use ring::state::Size;
-use ring::state::Writer;
-use ring::state::WriterPhase;
+use rules::state::Counts;
+use rules::state::Places;
+use rules::state::Reader;
+use rules::state::Size;
+use rules::state::Writer;
+use rules::state::WriterPhase;
 use std::num::wrapping_add_u64;
 use std::num::wrapping_sub_u64;
 

@@ -1,7 +1,7 @@
 // The counts of a random state: small ones, and three kinds near the limit.
 use crate::draws::below;
 use ring::Ring;
-use ring::state::Counts;
+use rules::state::Counts;
 
 fn small(s: &mut u32) -> Counts {
     let handed = below(s, 100) as u64;

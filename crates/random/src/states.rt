@@ -8,8 +8,8 @@ use crate::writers::draw_reader;
 use crate::writers::draw_stack;
 use ring::PageNo;
 use ring::Ring;
-use ring::state::Places;
-use ring::state::Size;
+use rules::state::Places;
+use rules::state::Size;
 
 pub(crate) fn draw_size(s: &mut u32) -> Size
     ensures { λ r. ⌜ (r .pages ≤ 16) × (1 ≤ r .slots) × (r .slots ≤ 16) ⌝ }

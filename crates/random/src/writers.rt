@@ -4,10 +4,10 @@ use crate::draws::any;
 use crate::draws::below;
 use crate::draws::page;
 use ring::PageNo;
-use ring::state::Reader;
-use ring::state::ReaderPhase;
-use ring::state::Writer;
-use ring::state::WriterPhase;
+use rules::state::Reader;
+use rules::state::ReaderPhase;
+use rules::state::Writer;
+use rules::state::WriterPhase;
 
 // A phase's code, the two numbers that it holds, and whether the update mark is the writer's own; what a code has no use for is 0 or false.
 pub struct PhaseDraw {

@@ -1,3 +1,2 @@
 -- What the proofs about actions as bytes share.
 pub mod Laws
-pub mod Shift

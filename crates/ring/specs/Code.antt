@@ -7,13 +7,14 @@ use mathlib.Core.Bool.{true}
 use mathlib.Core.Logic.{_≢_}
 use mathlib.Core.List.{List, [], _∷_}
 use Prim.Native.Nat.{ℕ}
-use Rattle.ring.specs.Answers.{told}
-use Rattle.ring.specs.Shape.{inShape}
-use Rattle.ring.specs.History.{Run, recall, valueIn, nothing}
-use Rattle.ring.specs.Demand.{Claim, CompleteClaim, listed}
-use Rattle.ring.specs.declared.state.Action.{Action}
-use Rattle.ring.specs.declared.state.Answer.the-variants.{Accepted}
-use Rattle.ring.specs.declared.state.Receipt.{Receipt}
+use Rattle.rules.specs.Answers.{told}
+use Rattle.rules.specs.Shape.{inShape}
+use Rattle.rules.specs.History.{Run, recall, valueIn, nothing}
+use Rattle.rules.specs.Demand.{Claim, CompleteClaim, listed}
+use Rattle.rules.specs.declared.state.Action.{Action}
+use Rattle.rules.specs.declared.state.Answer.the-variants.{Accepted}
+use Rattle.rules.specs.declared.state.Receipt.{Receipt}
+use Rattle.ring.specs.Held.{stateOf, ringOf}
 use Rattle.ring.specs.declared.state.Ring.{Ring}
 use Rattle.ring.specs.declared.state.Step.{Step}
 
@@ -33,14 +34,14 @@ runTold r [] = r
 runTold r (m ∷ rest) =
     runTold
     (record {
-      now = m .step .ring;
+      now = stateOf (m .step .ring);
       past = recall (valueIn (m .action)) (r .now) (m .step .answer) (r .past);
     })
     rest
 
 -- .. from the step of a set-up
 abbrev pub runFrom : Step → List Made → Run
-runFrom first made = runTold (record { now = first .ring; past = nothing }) made
+runFrom first made = runTold (record { now = stateOf (first .ring); past = nothing }) made
 
 module _ (FreshGives : ℕ → ℕ → ℕ → Step → Type 0) (ActGives : Ring → Action → Step → Type 0) (ReceiptGives : Ring → Receipt → Type 0) where
   -- each call is given the ring that the last one returned
@@ -53,8 +54,8 @@ module _ (FreshGives : ℕ → ℕ → ℕ → Step → Type 0) (ActGives : Ring
     pub demand : Claim c r
     pub complete : CompleteClaim c r
     pub shape : inShape (r .now) ≡ true
-    pub refusals : (a : Action) (s : Step) → ActGives (r .now) a s → told (s .answer) .refusal ≡ listed (r .now) a
-    pub same : (a : Action) (s : Step) → ActGives (r .now) a s → listed (r .now) a ≢ 0 → s .ring ≡ r .now
+    pub refusals : (a : Action) (s : Step) → ActGives (ringOf (r .now)) a s → told (s .answer) .refusal ≡ listed (r .now) a
+    pub same : (a : Action) (s : Step) → ActGives (ringOf (r .now)) a s → listed (r .now) a ≢ 0 → stateOf (s .ring) ≡ r .now
     pub receipt : c .refusal ≡ 0
 
   -- for every accepted set-up, every list of calls, and the receipt of the ring that the last one returned
@@ -66,7 +67,7 @@ module _ (FreshGives : ℕ → ℕ → ℕ → Step → Type 0) (ActGives : Ring
       (made : List Made) →
       Follow (first .ring) made →
       (c : Receipt) →
-      ReceiptGives (runFrom first made .now) c →
+      ReceiptGives (ringOf (runFrom first made .now)) c →
       CodeClaim c (runFrom first made)
 
   -- such runs there are: for every set-up and every list of actions, steps and a receipt that the functions may return
@@ -77,7 +78,7 @@ module _ (FreshGives : ℕ → ℕ → ℕ → Step → Type 0) (ActGives : Ring
     pub all : asked made ≡ actions
     pub follow : Follow (first .ring) made
     pub receipt : Receipt
-    pub given : ReceiptGives (runFrom first made .now) receipt
+    pub given : ReceiptGives (ringOf (runFrom first made .now)) receipt
 
   abbrev pub CodeRuns : Type 0
   CodeRuns = (pages slots mode : ℕ) (actions : List Action) → Runs pages slots mode actions

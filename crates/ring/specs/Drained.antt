@@ -4,10 +4,11 @@ use mathlib.Core.Path.{_≡_}
 use mathlib.Core.List.{List}
 use Prim.Native.Nat.{ℕ}
 use denote.Ref.{RefT, now, ptr}
-use Rattle.ring.specs.Drain.{Drain}
+use Rattle.rules.specs.Drain.{Drain}
+use Rattle.ring.specs.Held.{stateOf}
 use Rattle.ring.specs.declared.drained.Drained.{Drained}
 
 -- the ring, the last answer, and the part of the buffer `room` that holds the events and nothing else; it starts where the buffer starts. Of
 -- the reference no more is said: its ghost name is left free.
 abbrev pub handedBack : Drain → RefT (List ℕ) → Drained → Type 0
-handedBack d room r = (r .ring ≡ d .ring) × (r .last ≡ d .last) × (now (r .part) ≡ d .events) × (ptr (r .part) ≡ ptr room)
+handedBack d room r = (stateOf (r .ring) ≡ d .ring) × (r .last ≡ d .last) × (now (r .part) ≡ d .events) × (ptr (r .part) ≡ ptr room)

@@ -1,27 +1,5 @@
--- The rules of the ring, one file for each part. Read in this order.
-pub mod Limits
-pub mod Lists
-pub mod State
-pub mod Answers
-pub mod Codes
-pub mod Refusals
-pub mod Words
-pub mod Shape
-pub mod SetUp
-pub mod Begin
-pub mod Write
-pub mod Read
-pub mod Pieces
-pub mod Receipt
-pub mod Act
-pub mod Actions
-pub mod Change
+-- What the code says in the terms of the rules (crate rules).
+pub mod Held
 pub mod Replay
-pub mod Drain
 pub mod Drained
-pub mod Turn
-pub mod Remember
-pub mod History
-pub mod Demand
 pub mod Code
-pub mod Cases

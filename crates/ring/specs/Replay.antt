@@ -1,74 +1,35 @@
--- Replay: actions that stand one after the other in some bytes, made one by one on the ring of a set-up. Request E1: "Replay equals the actions one by one".
+-- What a replay gives back.
 -- Assumes nothing.
-use mathlib.Core.Path.{_≡_}
-use mathlib.Core.Bool.{Bool, true, cond, not}
-use mathlib.Core.List.{List, [], _∷_, _++_}
-use Prim.Native.Nat.{ℕ, _+_, _*_, _/_}
-use lib.Dec.{ltb}
-use lib.ListN.{length, drop, set}
-use Rattle.ring.specs.Lists.{first}
-use Rattle.ring.specs.State.{sizeOf}
-use Rattle.ring.specs.Codes.{numbersOf}
-use Rattle.ring.specs.Shape.{sizeFits}
-use Rattle.ring.specs.SetUp.{freshRing, plainRing}
-use Rattle.ring.specs.Act.{act}
-use Rattle.ring.specs.Actions.{Decoded, decoded}
-use Rattle.ring.specs.declared.codes.Numbers.{Numbers}
-use Rattle.ring.specs.declared.state.Size.{Size}
-use Rattle.ring.specs.declared.state.Refusal.{Refusal}
-use Rattle.ring.specs.declared.state.Refusal.the-variants.{SetUp, Room}
-use Rattle.ring.specs.declared.state.Answer.{Answer}
-use Rattle.ring.specs.declared.state.Answer.the-variants.{Accepted, Refused}
-use Rattle.ring.specs.declared.state.Action.{Action}
-use Rattle.ring.specs.declared.state.Ring.{Ring}
+use mathlib.Core.Bool.{not}
+use mathlib.Core.List.{List, [], _∷_}
+use Prim.Native.Nat.{ℕ}
+use lib.ListN.{length}
+use Rattle.rules.specs.Lists.{first}
+use Rattle.rules.specs.State.{sizeOf}
+use Rattle.rules.specs.Shape.{sizeFits}
+use Rattle.rules.specs.SetUp.{freshRing, plainRing}
+use Rattle.rules.specs.Actions.{Decoded, decoded}
+use Rattle.rules.specs.Replay.{ringAfter, roomFits}
+use Rattle.rules.specs.declared.state.Refusal.{Refusal}
+use Rattle.rules.specs.declared.state.Refusal.the-variants.{SetUp, Room}
+use Rattle.rules.specs.declared.state.Answer.{Answer}
+use Rattle.rules.specs.declared.state.Answer.the-variants.{Accepted, Refused}
+use Rattle.rules.specs.declared.state.State.{State}
+use Rattle.ring.specs.Held.{ringOf}
 use Rattle.ring.specs.declared.state.Replay.{Replay}
-
--- ---- the actions one by one, each on the ring that the last one returned. The ring is that of the run that demand 3 speaks of (`after-now`, proofs/runs/Reached)
-
-abbrev pub ringAfter : Ring → List Action → Ring
-ringAfter r [] = r
-ringAfter r (a ∷ rest) = ringAfter (act r a .ring) rest
-
-abbrev pub answersOf : Ring → List Action → List Answer
-answersOf r [] = []
-answersOf r (a ∷ rest) = act r a .answer ∷ answersOf (act r a .ring) rest
-
--- ---- answers in room that is lent: three numbers each, the code of its kind and its values
-
-abbrev pub answerNumbers : ℕ
-answerNumbers = 3
-
-abbrev pub laid : List Answer → List ℕ
-laid [] = []
-laid (a ∷ rest) = numbersOf a .code ∷ numbersOf a .first ∷ numbersOf a .second ∷ laid rest
-
--- the front of the room filled, the rest kept
-abbrev pub over : List ℕ → List ℕ → List ℕ
-over front old = front ++ drop (length front) old
-
--- one answer laid at a place
-abbrev pub laidAt : List ℕ → ℕ → Numbers → List ℕ
-laidAt room at n = set (set (set room at (n .code)) (at + 1) (n .first)) (at + 2) (n .second)
 
 -- ---- what a replay gives back
 
-abbrev pub replay : Ring → Answer → ℕ → ℕ → Replay
-replay r a made stop = record { ring = r; answer = a; made = made; stop = stop }
+abbrev pub replay : State → Answer → ℕ → ℕ → Replay
+replay r a made stop = record { ring = ringOf r; answer = a; made = made; stop = stop }
 
 -- refused before the first action: the plain ring
 abbrev pub refusedReplay : Refusal → Replay
 refusedReplay why = replay plainRing (Refused why) 0 0
 
 -- all of them made, from ring r; that the bytes may break off is told by the stop alone
-abbrev pub ran : Ring → Decoded → Replay
+abbrev pub ran : State → Decoded → Replay
 ran r d = replay (ringAfter r (d .actions)) Accepted (length (d .actions)) (d .stop)
-
-abbrev pub ranRoom : Ring → Decoded → List ℕ → List ℕ
-ranRoom r d room = over (laid (answersOf r (d .actions))) room
-
--- in the room lent there is a place for an answer to each byte: as many actions as there may be
-abbrev pub roomFits : List ℕ → List ℕ → Bool
-roomFits bytes room = not (ltb (length room / answerNumbers) (length bytes))
 
 -- refused with SETUP where the set-up is, then with ROOM where the room is too short for whatever the bytes hold
 abbrev pub replayRule : ℕ → ℕ → ℕ → List ℕ → List ℕ → Replay
@@ -78,19 +39,3 @@ replayRule pages slots mode bytes room =
     ∷ (not (roomFits bytes room), refusedReplay Room)
     ∷ [])
     (ran (freshRing (sizeOf pages slots mode)) (decoded bytes))
-
--- what the room holds then: as before where the replay is refused
-abbrev pub roomRule : ℕ → ℕ → ℕ → List ℕ → List ℕ → List ℕ
-roomRule pages slots mode bytes room =
-    first
-    ((not (sizeFits (sizeOf pages slots mode)), room)
-    ∷ (not (roomFits bytes room), room)
-    ∷ [])
-    (ranRoom (freshRing (sizeOf pages slots mode)) (decoded bytes) room)
-
--- a ring that some actions reach from an accepted set-up
-pub record Reached (r : Ring) : Type 0 where
-  pub size : Size
-  pub fits : sizeFits size ≡ true
-  pub past : List Action
-  pub reached : r ≡ ringAfter (freshRing size) past

@@ -1,14 +1,15 @@
 // One action of any kind.
 ghost use mathlib.Core.Path.{_≡_};
-ghost use Rattle.ring.specs.Answers.{outcome};
-ghost use Rattle.ring.specs.Act.{act};
-use crate::state::Action;
+ghost use Rattle.ring.specs.Held.{outcome};
+ghost use Rattle.rules.specs.Act.{act};
+ghost use Rattle.ring.specs.Held.{stateOf};
 use crate::state::Ring;
 use crate::state::Step;
+use rules::state::Action;
 
 impl Ring {
     pub fn act(self, action: Action) -> Step
-        ensures { λ r. ⌜ outcome r ≡ act self action ⌝ }
+        ensures { λ r. ⌜ outcome r ≡ act (stateOf self) action ⌝ }
     {
         match action {
             Action::Begin(value) => self.begin(value),

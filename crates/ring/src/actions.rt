@@ -2,29 +2,9 @@
 ghost use mathlib.Core.Path.{_≡_};
 ghost use Prim.Native.Nat.{_+_, _<_, _≤_};
 ghost use lib.ListN.{length};
-ghost use Rattle.ring.specs.Actions.{valueOf, beginAt, codedAt};
-use crate::state::Action;
-
-// What stands at a place.
-pub enum Coded {
-    // a whole action, and the place after it
-    Whole(Action, usize),
-    // an unknown or cut action
-    Broken,
-    // nothing: the bytes end here
-    End,
-}
-
-impl Action {
-    pub const BEGIN: u8 = 1;
-
-    pub const WRITE: u8 = 2;
-
-    pub const READ: u8 = 3;
-
-    // how many bytes a Begin has
-    pub const BEGIN_LENGTH: usize = 5;
-}
+ghost use Rattle.rules.specs.Actions.{valueOf, beginAt, codedAt};
+use rules::actions::Coded;
+use rules::state::Action;
 
 // The number in four bytes, low first.
 fn value_of(a: u8, b: u8, c: u8, d: u8) -> u32

@@ -1,16 +1,17 @@
 // Begin: a new writer on top of the stack.
 ghost use mathlib.Core.Path.{_≡_};
-ghost use Rattle.ring.specs.Answers.{outcome};
-ghost use Rattle.ring.specs.Refusals.{beginVerdict};
-ghost use Rattle.ring.specs.Begin.{beginRule};
+ghost use Rattle.ring.specs.Held.{outcome};
+ghost use Rattle.rules.specs.Refusals.{beginVerdict};
+ghost use Rattle.rules.specs.Begin.{beginRule};
+ghost use Rattle.ring.specs.Held.{stateOf};
 use crate::cells::wanting;
-use crate::moves::Verdict;
 use crate::shape::counts_fit;
 use crate::shape::layout_fits;
-use crate::state::Answer;
-use crate::state::Refusal;
 use crate::state::Ring;
 use crate::state::Step;
+use rules::moves::Verdict;
+use rules::state::Answer;
+use rules::state::Refusal;
 
 // Whether a Begin is made or refused; `fit` says whether the ring is in shape.
 pub(crate) fn begin_verdict(fit: bool, depth: u32, begun: u64) -> Verdict
@@ -31,7 +32,7 @@ pub(crate) fn begin_verdict(fit: bool, depth: u32, begun: u64) -> Verdict
 impl Ring {
     // A new writer with this value. Refused with SHAPE out of shape, with DEPTH at depth 4, and with WORN where begun is at its limit.
     pub fn begin(mut self, value: u32) -> Step
-        ensures { λ r. ⌜ outcome r ≡ beginRule self value ⌝ }
+        ensures { λ r. ⌜ outcome r ≡ beginRule (stateOf self) value ⌝ }
     {
         let size = self.size;
         let places = self.places;

@@ -1,13 +1,13 @@
 // What stands where: the cells of a page, the place of a slot in the arrays of slots, and a record of the stack in phase WANT.
 ghost use mathlib.Core.Path.{_≡_};
 ghost use Prim.Native.Nat.{_≤_};
-ghost use Rattle.ring.specs.Limits.{mostPages};
-ghost use Rattle.ring.specs.State.{wordAt, usedAt, slotIndex, writer};
-ghost use Rattle.ring.specs.declared.state.WriterPhase.the-variants.{Want};
-use crate::state::PageNo;
-use crate::state::Size;
-use crate::state::Writer;
-use crate::state::WriterPhase;
+ghost use Rattle.rules.specs.Limits.{mostPages};
+ghost use Rattle.rules.specs.State.{wordAt, usedAt, slotIndex, writer};
+ghost use Rattle.rules.specs.declared.state.WriterPhase.the-variants.{Want};
+use rules::state::PageNo;
+use rules::state::Size;
+use rules::state::Writer;
+use rules::state::WriterPhase;
 
 // The word of a page.
 pub(crate) fn word_at(words: &[u32; 17], p: PageNo) -> u32

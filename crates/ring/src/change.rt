@@ -2,16 +2,12 @@
 // tested here; `w` is the record on top of the stack.
 ghost use mathlib.Core.Path.{_≡_};
 ghost use Prim.Native.Nat.{_≤_};
-ghost use Rattle.ring.specs.Limits.{mostDepth, mostCount};
-ghost use Rattle.ring.specs.Pieces.{wordsStored, usedStored, numbersStored, valuesStored, StoresFit};
-ghost use Rattle.ring.specs.Change.{topAt, unchanged, beginChange, movedChange, writeChange, readChange, changeBy, MovedFits, WriteFits, ReadFits, ChangeFits};
+ghost use Rattle.rules.specs.Limits.{mostDepth, mostCount};
+ghost use Rattle.rules.specs.Pieces.{wordsStored, usedStored, numbersStored, valuesStored, StoresFit};
+ghost use Rattle.rules.specs.Change.{topAt, unchanged, beginChange, movedChange, writeChange, readChange, changeBy, MovedFits, WriteFits, ReadFits, ChangeFits};
 use crate::begin::begin_verdict;
 use crate::cells::wanting;
 use crate::codes::answer_numbers;
-use crate::moves::Change;
-use crate::moves::Move;
-use crate::moves::Stores;
-use crate::moves::Verdict;
 use crate::pieces::answer_after;
 use crate::pieces::counts_after;
 use crate::pieces::depth_after;
@@ -24,15 +20,19 @@ use crate::pieces::read_stores;
 use crate::pieces::record_after;
 use crate::pieces::stores_after;
 use crate::read::plan_reader;
-use crate::state::Action;
-use crate::state::Answer;
-use crate::state::Counts;
-use crate::state::Places;
-use crate::state::Reader;
-use crate::state::Size;
-use crate::state::Writer;
 use crate::write::plan_phase;
 use crate::write::write_verdict;
+use rules::moves::Change;
+use rules::moves::Move;
+use rules::moves::Stores;
+use rules::moves::Verdict;
+use rules::state::Action;
+use rules::state::Answer;
+use rules::state::Counts;
+use rules::state::Places;
+use rules::state::Reader;
+use rules::state::Size;
+use rules::state::Writer;
 
 // The place of the record on top of the stack; the first place of an empty stack.
 pub(crate) fn top_at(depth: u32) -> usize

@@ -1,15 +1,9 @@
 // Answers by number: the code of an answer's kind, with each refusal as a kind of its own, and the values in its brackets.
 ghost use mathlib.Core.Path.{_≡_};
-ghost use Rattle.ring.specs.Codes.{refusalCode, kind, withOne, numbersOf};
-use crate::state::Answer;
-use crate::state::Refusal;
-
-// The code of an answer's kind, and its first and its second value, 0 for a value that it does not have.
-pub struct Numbers {
-    pub code: u32,
-    pub first: u64,
-    pub second: u64,
-}
+ghost use Rattle.rules.specs.Codes.{refusalCode, kind, withOne, numbersOf};
+use rules::codes::Numbers;
+use rules::state::Answer;
+use rules::state::Refusal;
 
 // The code of the last kind that is no refusal. The refusals follow it, by their numbers in the rules.
 pub const LAST_KIND: u32 = 22;

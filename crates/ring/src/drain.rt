@@ -6,22 +6,24 @@ ghost use Prim.Native.Nat.{_+_, _≤_};
 ghost use lib.Dec.{leb};
 ghost use lib.ListN.{length};
 ghost use lib.Seq.{sets};
-ghost use Rattle.ring.specs.Limits.{slotRoom, mostCount, mostInRow};
-ghost use Rattle.ring.specs.State.{reading};
-ghost use Rattle.ring.specs.Shape.{inShape};
-ghost use Rattle.ring.specs.Drain.{eventNumber, eventsFrom, lastAfter, drained, drainRule, drainedInto, laidOut};
-ghost use Rattle.ring.specs.declared.state.Last.the-variants.{None};
+ghost use Rattle.rules.specs.Limits.{slotRoom, mostCount, mostInRow};
+ghost use Rattle.rules.specs.State.{reading};
+ghost use Rattle.rules.specs.Shape.{inShape};
+ghost use Rattle.rules.specs.Drain.{eventNumber, eventsFrom, lastAfter, drained, drainRule};
+ghost use Rattle.ring.specs.Held.{drainedInto, laidOut};
+ghost use Rattle.rules.specs.declared.state.Last.the-variants.{None};
+ghost use Rattle.ring.specs.Held.{stateOf};
 use crate::change::store_used;
 use crate::change::store_words;
 use crate::shape::counts_fit;
 use crate::shape::layout_fits;
-use crate::state::Answer;
-use crate::state::Counts;
 use crate::state::DrainedInto;
-use crate::state::Last;
-use crate::state::Refusal;
 use crate::state::Ring;
 use crate::turn::turn_by;
+use rules::state::Answer;
+use rules::state::Counts;
+use rules::state::Last;
+use rules::state::Refusal;
 
 const TWO_32: u64 = 4294967296;
 
@@ -74,8 +76,8 @@ fn last_after(due: bool, last: Last) -> Last
 impl Ring {
     // The Reads of a ring in shape.
     fn drain_shaped(mut self, room: &mut [u64]) -> DrainedInto
-        requires { ⌜ inShape self ≡ true ⌝ }
-        ensures { λ r. ⌜ (r ≡ drainedInto (drained mostInRow (length (now (room .entry))) self None)) × (now (room .exit) ≡ laidOut (drained mostInRow (length (now (room .entry))) self None) (now (room .entry))) ⌝ }
+        requires { ⌜ inShape (stateOf self) ≡ true ⌝ }
+        ensures { λ r. ⌜ (r ≡ drainedInto (drained mostInRow (length (now (room .entry))) (stateOf self) None)) × (now (room .exit) ≡ laidOut (drained mostInRow (length (now (room .entry))) (stateOf self) None) (now (room .entry))) ⌝ }
     {
         let most = room.len();
         let mut at: usize = 0;
@@ -118,7 +120,7 @@ impl Ring {
     // Event. The Events are the first `count` elements of the room, each as number * 2^32 + value; the rest keeps its contents. A ring out of
     // shape is refused with SHAPE, whatever the room's length.
     pub fn drain_into(self, room: &mut [u64]) -> DrainedInto
-        ensures { λ r. ⌜ (r ≡ drainedInto (drainRule self (length (now (room .entry))))) × (now (room .exit) ≡ laidOut (drainRule self (length (now (room .entry)))) (now (room .entry))) ⌝ }
+        ensures { λ r. ⌜ (r ≡ drainedInto (drainRule (stateOf self) (length (now (room .entry))))) × (now (room .exit) ≡ laidOut (drainRule (stateOf self) (length (now (room .entry)))) (now (room .entry))) ⌝ }
     {
         let size = self.size;
         let places = self.places;

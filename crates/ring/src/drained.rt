@@ -3,10 +3,11 @@
 ghost use mathlib.Core.Path.{_≡_};
 ghost use Prim.Native.Nat.{_≤_};
 ghost use lib.ListN.{length, take};
-ghost use Rattle.ring.specs.Drain.{drainRule};
+ghost use Rattle.rules.specs.Drain.{drainRule};
 ghost use Rattle.ring.specs.Drained.{handedBack};
-use crate::state::Last;
+ghost use Rattle.ring.specs.Held.{stateOf};
 use crate::state::Ring;
+use rules::state::Last;
 
 // What a drain gives back: the part of the lent buffer that it filled, the ring, and the last answer.
 pub struct Drained<'a> {
@@ -28,7 +29,7 @@ impl Ring {
     // the room's lifetime, so no clause here can speak of the elements beyond the part; that they keep their contents is promised by
     // `drain_into`.
     pub fn drain<'a>(self, room: &'a mut [u64]) -> Drained<'a>
-        ensures { λ r. ⌜ handedBack (drainRule self (length (now (room .entry)))) (room .entry) r ⌝ }
+        ensures { λ r. ⌜ handedBack (drainRule (stateOf self) (length (now (room .entry)))) (room .entry) r ⌝ }
     {
         let f = self.drain_into(room);
         let part = front(room, f.count);

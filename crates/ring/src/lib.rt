@@ -1,8 +1,6 @@
 // A ring of readings for climate loggers, as a machine of single steps. Each action takes the ring by value and gives it back with an
 // answer; nothing is kept elsewhere. The rules are definitions in specs/, and each function's contract is an equation with one of them.
 pub mod state; // the ring and its parts
-pub mod moves; // what an action decides before it stores
-pub mod answers; // refusals by number
 pub mod codes; // answers as numbers
 pub mod cells; // what stands where in the arrays
 pub mod words; // link words, split, joined and searched
@@ -22,19 +20,19 @@ pub mod drain; // Reads in a row, their Events in a buffer that is lent
 pub mod drained; // the same, with the part that is filled handed back
 
 // what a caller names
-pub use actions::Coded;
 pub use actions::action_at;
-pub use codes::Numbers;
 pub use codes::answer_numbers;
 pub use drained::Drained;
-pub use state::Action;
-pub use state::Answer;
+pub use rules::actions::Coded;
+pub use rules::codes::Numbers;
+pub use rules::state::Action;
+pub use rules::state::Answer;
+pub use rules::state::Last;
+pub use rules::state::PageNo;
+pub use rules::state::ReadingNo;
+pub use rules::state::Receipt;
+pub use rules::state::Refusal;
 pub use state::DrainedInto;
-pub use state::Last;
-pub use state::PageNo;
-pub use state::ReadingNo;
-pub use state::Receipt;
-pub use state::Refusal;
 pub use state::Replay;
 pub use state::Ring;
 pub use state::Step;

@@ -1,28 +1,28 @@
 // What an action leaves in each piece of the ring, once it is decided which rule applies: a Write, and then a Read.
 ghost use mathlib.Core.Path.{_≡_};
 ghost use Prim.Native.Nat.{_≤_};
-ghost use Rattle.ring.specs.Limits.{mostPages, mostSlots, mostCount};
-ghost use Rattle.ring.specs.Pieces.{answerAfter, recordAfter, countsAfter, placesAfter, depthAfter, storesAfter, MoveFits, readAnswer, readHanded, readPlaces, readPhase, readStores, FetchFits, EventFits};
+ghost use Rattle.rules.specs.Limits.{mostPages, mostSlots, mostCount};
+ghost use Rattle.rules.specs.Pieces.{answerAfter, recordAfter, countsAfter, placesAfter, depthAfter, storesAfter, MoveFits, readAnswer, readHanded, readPlaces, readPhase, readStores, FetchFits, EventFits};
 use crate::cells::slot_index;
 use crate::cells::used_at;
 use crate::cells::wanting;
 use crate::cells::word_at;
-use crate::moves::Fetch;
-use crate::moves::Move;
-use crate::moves::Stores;
-use crate::state::Answer;
-use crate::state::Counts;
-use crate::state::PageNo;
-use crate::state::Places;
-use crate::state::Reader;
-use crate::state::ReaderPhase;
-use crate::state::ReadingNo;
 use crate::state::Ring;
-use crate::state::Size;
-use crate::state::Writer;
-use crate::state::WriterPhase;
 use crate::words::page_in;
 use crate::words::word_of;
+use rules::moves::Fetch;
+use rules::moves::Move;
+use rules::moves::Stores;
+use rules::state::Answer;
+use rules::state::Counts;
+use rules::state::PageNo;
+use rules::state::Places;
+use rules::state::Reader;
+use rules::state::ReaderPhase;
+use rules::state::ReadingNo;
+use rules::state::Size;
+use rules::state::Writer;
+use rules::state::WriterPhase;
 
 // The answer; `taken` is the count before the step.
 pub(crate) fn answer_after(m: Move, taken: u64) -> Answer

@@ -2,16 +2,13 @@
 ghost use mathlib.Core.Path.{_≡_};
 ghost use mathlib.Core.Bool.{true};
 ghost use Prim.Native.Nat.{_≤_};
-ghost use Rattle.ring.specs.Limits.{mostPages};
-ghost use Rattle.ring.specs.Answers.{outcome};
-ghost use Rattle.ring.specs.Refusals.{readVerdict};
-ghost use Rattle.ring.specs.Shape.{readerFits};
-ghost use Rattle.ring.specs.Read.{readLimit, planIdle, planReady, planReader, readRule};
+ghost use Rattle.rules.specs.Limits.{mostPages};
+ghost use Rattle.ring.specs.Held.{outcome};
+ghost use Rattle.rules.specs.Refusals.{readVerdict};
+ghost use Rattle.rules.specs.Shape.{readerFits};
+ghost use Rattle.rules.specs.Read.{readLimit, planIdle, planReady, planReader, readRule};
+ghost use Rattle.ring.specs.Held.{stateOf};
 use crate::cells::used_at;
-use crate::moves::Fetch;
-use crate::moves::Search;
-use crate::moves::Stores;
-use crate::moves::Verdict;
 use crate::pieces::read_answer;
 use crate::pieces::read_handed;
 use crate::pieces::read_phase;
@@ -19,17 +16,21 @@ use crate::pieces::read_places;
 use crate::pieces::read_stores;
 use crate::shape::counts_fit;
 use crate::shape::layout_fits;
-use crate::state::Answer;
-use crate::state::PageNo;
-use crate::state::Places;
-use crate::state::Reader;
-use crate::state::ReaderPhase;
-use crate::state::Refusal;
 use crate::state::Ring;
-use crate::state::Size;
 use crate::state::Step;
 use crate::words::find_header;
 use crate::words::links;
+use rules::moves::Fetch;
+use rules::moves::Search;
+use rules::moves::Stores;
+use rules::moves::Verdict;
+use rules::state::Answer;
+use rules::state::PageNo;
+use rules::state::Places;
+use rules::state::Reader;
+use rules::state::ReaderPhase;
+use rules::state::Refusal;
+use rules::state::Size;
 
 // How far the reader page may be read. While commit is on it, a slot below used may be reserved and not yet committed.
 pub(crate) fn read_limit(places: Places, used: &[u32; 17]) -> u32
@@ -105,7 +106,7 @@ fn read_verdict(fit: bool) -> Verdict
 impl Ring {
     // One step of the reader. Refused with SHAPE out of shape.
     pub fn read(mut self) -> Step
-        ensures { λ r. ⌜ outcome r ≡ readRule self ⌝ }
+        ensures { λ r. ⌜ outcome r ≡ readRule (stateOf self) ⌝ }
     {
         let size = self.size;
         let places = self.places;

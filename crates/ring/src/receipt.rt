@@ -1,14 +1,15 @@
 // The receipt: what became of the readings begun.
 ghost use mathlib.Core.Path.{_≡_};
 ghost use mathlib.Core.Bool.{true};
-ghost use Rattle.ring.specs.Shape.{countsFit};
-ghost use Rattle.ring.specs.Receipt.{receiptOf, refusedReceipt, receiptRule};
+ghost use Rattle.rules.specs.Shape.{countsFit};
+ghost use Rattle.rules.specs.Receipt.{receiptOf, refusedReceipt, receiptRule};
+ghost use Rattle.ring.specs.Held.{stateOf};
 use crate::shape::counts_fit;
 use crate::shape::layout_fits;
-use crate::state::Counts;
-use crate::state::Receipt;
-use crate::state::Refusal;
 use crate::state::Ring;
+use rules::state::Counts;
+use rules::state::Receipt;
+use rules::state::Refusal;
 
 // The receipt of counts that agree, so that no difference is below 0.
 fn receipt_of(c: Counts) -> Receipt
@@ -49,7 +50,7 @@ fn refused_receipt() -> Receipt
 impl Ring {
     // The receipt. Refused with SHAPE out of shape: all zero, and not complete.
     pub fn receipt(self) -> Receipt
-        ensures { λ r. ⌜ r ≡ receiptRule self ⌝ }
+        ensures { λ r. ⌜ r ≡ receiptRule (stateOf self) ⌝ }
     {
         let size = self.size;
         let places = self.places;

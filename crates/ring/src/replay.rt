@@ -3,10 +3,11 @@
 ghost use mathlib.Core.Path.{_≡_};
 ghost use Prim.Native.Nat.{_+_, _*_, _<_, _≤_};
 ghost use lib.ListN.{length};
-ghost use Rattle.ring.specs.Actions.{decoded};
-ghost use Rattle.ring.specs.declared.state.Answer.the-variants.{Accepted};
-ghost use Rattle.ring.specs.Replay.{laidAt, answerNumbers, replay, refusedReplay, ran, ranRoom, replayRule, roomRule, Reached};
-use crate::actions::Coded;
+ghost use Rattle.rules.specs.Actions.{decoded};
+ghost use Rattle.rules.specs.declared.state.Answer.the-variants.{Accepted};
+ghost use Rattle.rules.specs.Replay.{laidAt, answerNumbers, ranRoom, roomRule, Reached};
+ghost use Rattle.ring.specs.Replay.{replay, refusedReplay, ran, replayRule};
+ghost use Rattle.ring.specs.Held.{stateOf};
 use crate::actions::action_at;
 use crate::change::change_by;
 use crate::change::store_numbers;
@@ -14,11 +15,12 @@ use crate::change::store_used;
 use crate::change::store_values;
 use crate::change::store_words;
 use crate::change::top_at;
-use crate::codes::Numbers;
-use crate::state::Answer;
-use crate::state::Refusal;
 use crate::state::Replay;
 use crate::state::Ring;
+use rules::actions::Coded;
+use rules::codes::Numbers;
+use rules::state::Answer;
+use rules::state::Refusal;
 
 // How many numbers an answer takes in the room lent.
 pub const ANSWER_NUMBERS: usize = 3;
@@ -48,7 +50,7 @@ pub fn refused_replay(why: Refusal) -> Replay
 
 // All was made that could be.
 fn ended(ring: Ring, made: usize, stop: usize) -> Replay
-    ensures { λ r. ⌜ r ≡ replay ring Accepted made stop ⌝ }
+    ensures { λ r. ⌜ r ≡ replay (stateOf ring) Accepted made stop ⌝ }
 {
     Replay {
         ring,
@@ -61,8 +63,8 @@ fn ended(ring: Ring, made: usize, stop: usize) -> Replay
 impl Ring {
     // All the whole actions from the first byte on.
     fn run(mut self, bytes: &[u8], room: &mut [u64]) -> Replay
-        requires { ⌜ Reached self × (answerNumbers * length (now bytes) ≤ length (now room)) ⌝ }
-        ensures { λ r. ⌜ (r ≡ ran self (decoded (now (bytes .entry)))) × (now (room .exit) ≡ ranRoom self (decoded (now (bytes .entry))) (now (room .entry))) ⌝ }
+        requires { ⌜ Reached (stateOf self) × (answerNumbers * length (now bytes) ≤ length (now room)) ⌝ }
+        ensures { λ r. ⌜ (r ≡ ran (stateOf self) (decoded (now (bytes .entry)))) × (now (room .exit) ≡ ranRoom (stateOf self) (decoded (now (bytes .entry))) (now (room .entry))) ⌝ }
     {
         let mut at: usize = 0;
         let mut made: usize = 0;

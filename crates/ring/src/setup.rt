@@ -1,24 +1,25 @@
 // Set-up: the fresh ring and the plain ring.
 ghost use mathlib.Core.Path.{_≡_};
 ghost use Prim.Native.Nat.{_≤_};
-ghost use Rattle.ring.specs.Limits.{mostPages};
-ghost use Rattle.ring.specs.State.{sizeOf, blank};
-ghost use Rattle.ring.specs.Shape.{sizeFits};
-ghost use Rattle.ring.specs.Answers.{outcome};
-ghost use Rattle.ring.specs.SetUp.{freshNext, freshFlag, freshWord, freshWords, freshRing, plainRing, freshRule};
+ghost use Rattle.rules.specs.Limits.{mostPages};
+ghost use Rattle.rules.specs.State.{sizeOf, blank};
+ghost use Rattle.rules.specs.Shape.{sizeFits};
+ghost use Rattle.ring.specs.Held.{outcome};
+ghost use Rattle.rules.specs.SetUp.{freshNext, freshFlag, freshWord, freshWords, freshRing, plainRing, freshRule};
+ghost use Rattle.ring.specs.Held.{ringOf};
 use crate::cells::wanting;
 use crate::shape::size_fits;
-use crate::state::Answer;
-use crate::state::Counts;
-use crate::state::PageNo;
-use crate::state::Places;
-use crate::state::Reader;
-use crate::state::ReaderPhase;
-use crate::state::Refusal;
 use crate::state::Ring;
-use crate::state::Size;
 use crate::state::Step;
 use crate::words::word_of;
+use rules::state::Answer;
+use rules::state::Counts;
+use rules::state::PageNo;
+use rules::state::Places;
+use rules::state::Reader;
+use rules::state::ReaderPhase;
+use rules::state::Refusal;
+use rules::state::Size;
 
 // The page in the word of page i, in a fresh ring of n pages.
 fn fresh_next(n: u32, i: u32) -> u32
@@ -65,7 +66,7 @@ fn fresh_words(n: u32) -> [u32; 17]
 impl Ring {
     // A ring of zeros.
     fn blank(size: Size) -> Ring
-        ensures { λ r. ⌜ r ≡ blank size ⌝ }
+        ensures { λ r. ⌜ r ≡ ringOf (blank size) ⌝ }
     {
         let no_writer = wanting(0);
         let stack = [no_writer; 4];
@@ -103,7 +104,7 @@ impl Ring {
 
     // The fresh ring of a size.
     fn fresh_ring(size: Size) -> Ring
-        ensures { λ r. ⌜ r ≡ freshRing size ⌝ }
+        ensures { λ r. ⌜ r ≡ ringOf (freshRing size) ⌝ }
     {
         let words = fresh_words(size.pages);
         let mut ring = Ring::blank(size);
@@ -117,7 +118,7 @@ impl Ring {
 
     // 8 pages of 16 slots in overwrite mode.
     pub fn plain() -> Ring
-        ensures { λ r. ⌜ r ≡ plainRing ⌝ }
+        ensures { λ r. ⌜ r ≡ ringOf plainRing ⌝ }
     {
         Ring::fresh_ring(Size {
             pages: Ring::PLAIN_PAGES,

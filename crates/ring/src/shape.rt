@@ -2,19 +2,20 @@
 // Tests are joined by `&`, since none of them can trap, and a loop goes through all of its places.
 ghost use mathlib.Core.Path.{_≡_};
 ghost use Prim.Native.Nat.{_≤_};
-ghost use Rattle.ring.specs.Limits.{mostPages};
-ghost use Rattle.ring.specs.Shape.{sizeFits, placesFit, countsSmall, countsFit, pagesFit, heldFits, writerFits, readerFits, stackFits, wordFits, wordsFit, usedFit, layoutFits, inShape};
-use crate::state::Counts;
-use crate::state::PageNo;
-use crate::state::Places;
-use crate::state::Reader;
-use crate::state::ReaderPhase;
+ghost use Rattle.rules.specs.Limits.{mostPages};
+ghost use Rattle.rules.specs.Shape.{sizeFits, placesFit, countsSmall, countsFit, pagesFit, heldFits, writerFits, readerFits, stackFits, wordFits, wordsFit, usedFit, layoutFits, inShape};
+ghost use Rattle.ring.specs.Held.{stateOf};
 use crate::state::Ring;
-use crate::state::Size;
-use crate::state::Writer;
-use crate::state::WriterPhase;
 use crate::words::flag_in;
 use crate::words::page_in;
+use rules::state::Counts;
+use rules::state::PageNo;
+use rules::state::Places;
+use rules::state::Reader;
+use rules::state::ReaderPhase;
+use rules::state::Size;
+use rules::state::Writer;
+use rules::state::WriterPhase;
 
 pub(crate) fn size_fits(s: Size) -> bool
     ensures { λ r. ⌜ r ≡ sizeFits s ⌝ }
@@ -177,7 +178,7 @@ pub(crate) fn layout_fits<'a>(
 impl Ring {
     // Whether the ring is in shape. The slots' numbers are 32 bits wide, so that they meet their limit by their type.
     pub fn in_shape(self) -> bool
-        ensures { λ r. ⌜ r ≡ inShape self ⌝ }
+        ensures { λ r. ⌜ r ≡ inShape (stateOf self) ⌝ }
     {
         let size = self.size;
         let places = self.places;

@@ -2,23 +2,23 @@
 // Read of another kind by itself.
 ghost use mathlib.Core.Path.{_≡_};
 ghost use Prim.Native.Nat.{_<_, _≤_};
-ghost use Rattle.ring.specs.Limits.{mostSlots};
-ghost use Rattle.ring.specs.Turn.{smaller, eventCount, placesBefore, leftAfter, turnBy, CountFits, TurnFits};
+ghost use Rattle.rules.specs.Limits.{mostSlots};
+ghost use Rattle.rules.specs.Turn.{smaller, eventCount, placesBefore, leftAfter, turnBy, CountFits, TurnFits};
 use crate::cells::slot_index;
-use crate::moves::Fetch;
-use crate::moves::Turn;
 use crate::pieces::read_answer;
 use crate::pieces::read_phase;
 use crate::pieces::read_places;
 use crate::pieces::read_stores;
 use crate::read::plan_reader;
 use crate::read::read_limit;
-use crate::state::Counts;
-use crate::state::Last;
-use crate::state::Places;
-use crate::state::Reader;
 use crate::state::Ring;
-use crate::state::Size;
+use rules::moves::Fetch;
+use rules::moves::Turn;
+use rules::state::Counts;
+use rules::state::Last;
+use rules::state::Places;
+use rules::state::Reader;
+use rules::state::Size;
 
 fn smaller(a: usize, b: usize) -> usize
     ensures { λ r. ⌜ r ≡ smaller a b ⌝ }

@@ -1,12 +1,12 @@
 // Link words: 4 * (next page) + flag. They are split, joined and searched here and nowhere else.
 ghost use mathlib.Core.Path.{_≡_};
 ghost use Prim.Native.Nat.{_≤_};
-ghost use Rattle.ring.specs.Limits.{mostPages};
-ghost use Rattle.ring.specs.Words.{pageIn, flagIn, wordOf, links, findHeader};
+ghost use Rattle.rules.specs.Limits.{mostPages};
+ghost use Rattle.rules.specs.Words.{pageIn, flagIn, wordOf, links, findHeader};
 use crate::cells::word_at;
-use crate::moves::Search;
-use crate::state::PageNo;
 use crate::state::Ring;
+use rules::moves::Search;
+use rules::state::PageNo;
 
 // The page in a word.
 pub fn page_in(w: u32) -> PageNo

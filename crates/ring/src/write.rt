@@ -3,17 +3,14 @@
 ghost use mathlib.Core.Path.{_≡_};
 ghost use mathlib.Core.Bool.{true};
 ghost use Prim.Native.Nat.{_≤_};
-ghost use Rattle.ring.specs.Limits.{mostPages};
-ghost use Rattle.ring.specs.Answers.{outcome};
-ghost use Rattle.ring.specs.Refusals.{writeVerdict};
-ghost use Rattle.ring.specs.Shape.{writerFits};
-ghost use Rattle.ring.specs.Write.{planFull, planWant, planMark, afterPromote, planPromote, planClear, planPush, planFilled, planPhase, writeRule};
+ghost use Rattle.rules.specs.Limits.{mostPages};
+ghost use Rattle.ring.specs.Held.{outcome};
+ghost use Rattle.rules.specs.Refusals.{writeVerdict};
+ghost use Rattle.rules.specs.Shape.{writerFits};
+ghost use Rattle.rules.specs.Write.{planFull, planWant, planMark, afterPromote, planPromote, planClear, planPush, planFilled, planPhase, writeRule};
+ghost use Rattle.ring.specs.Held.{stateOf};
 use crate::cells::used_at;
 use crate::cells::word_at;
-use crate::moves::Move;
-use crate::moves::Search;
-use crate::moves::Stores;
-use crate::moves::Verdict;
 use crate::pieces::answer_after;
 use crate::pieces::counts_after;
 use crate::pieces::depth_after;
@@ -22,19 +19,23 @@ use crate::pieces::record_after;
 use crate::pieces::stores_after;
 use crate::shape::counts_fit;
 use crate::shape::layout_fits;
-use crate::state::Answer;
-use crate::state::PageNo;
-use crate::state::Places;
-use crate::state::Refusal;
 use crate::state::Ring;
-use crate::state::Size;
 use crate::state::Step;
-use crate::state::Writer;
-use crate::state::WriterPhase;
 use crate::words::find_header;
 use crate::words::flag_in;
 use crate::words::links;
 use crate::words::page_in;
+use rules::moves::Move;
+use rules::moves::Search;
+use rules::moves::Stores;
+use rules::moves::Verdict;
+use rules::state::Answer;
+use rules::state::PageNo;
+use rules::state::Places;
+use rules::state::Refusal;
+use rules::state::Size;
+use rules::state::Writer;
+use rules::state::WriterPhase;
 
 // WANT, the tail page full; n and flag are those of its word.
 fn plan_full(size: Size, places: Places, n: PageNo, flag: u32) -> Move
@@ -194,7 +195,7 @@ pub(crate) fn write_verdict(fit: bool, depth: u32) -> Verdict
 impl Ring {
     // One step of the writer on top. Refused with SHAPE out of shape, and with NOBODY where no writer is at work.
     pub fn write(mut self) -> Step
-        ensures { λ r. ⌜ outcome r ≡ writeRule self ⌝ }
+        ensures { λ r. ⌜ outcome r ≡ writeRule (stateOf self) ⌝ }
     {
         let size = self.size;
         let places = self.places;

@@ -2,8 +2,8 @@
 use Prim.Native.Nat.{ℕ, _+_, _%_, _^_}
 use mathlib.Core.List.{List}
 use lib.ListN.{getD, set, replicate}
-use Rattle.ring.specs.declared.state.Answer.{Answer}
-use Rattle.ring.specs.Codes.{kinds, numbersOf}
+use Rattle.rules.specs.declared.state.Answer.{Answer}
+use Rattle.rules.specs.Codes.{kinds, numbersOf}
 
 -- a tally before any answer
 abbrev pub noAnswers : List ℕ

@@ -8,11 +8,11 @@ use native.Mathlib.Omega.{arith}
 use borrow.Author.Tests.{le-leb, lt-leb, le-ltb}
 use lib.ListN.{length, length-append}
 use lib.Seq.{getD-append-seam, getD-append-add}
-use Rattle.ring.specs.Limits.{mostCount}
-use Rattle.ring.specs.Actions.{beginCode, writeCode, readCode, beginLength, valueOf, valueBytes, codedAt, before, decodedFrom, coded, encoded}
-use Rattle.ring.specs.declared.state.Action.{Action}
-use Rattle.ring.specs.declared.state.Action.the-variants.{Begin, Write, Read}
-use Rattle.ring.specs.declared.actions.Coded.the-variants.{Whole, End}
+use Rattle.rules.specs.Limits.{mostCount}
+use Rattle.rules.specs.Actions.{beginCode, writeCode, readCode, beginLength, valueOf, valueBytes, codedAt, before, decodedFrom, coded, encoded}
+use Rattle.rules.specs.declared.state.Action.{Action}
+use Rattle.rules.specs.declared.state.Action.the-variants.{Begin, Write, Read}
+use Rattle.rules.specs.declared.actions.Coded.the-variants.{Whole, End}
 use Rattle.ring.proofs.actions.Laws.{decoded-whole, decoded-stops}
 use Rattle.trace.specs.Trace.{ValueFits, ValuesFit}
 

@@ -7,12 +7,12 @@ use native.Mathlib.Omega.{arith}
 use borrow.Author.Tests.{le-leb, le-ltb, eq-eqb, ne-eqb}
 use lib.ListN.{length, length-append}
 use lib.Seq.{take-append-seam, drop-append-add, drop-drop}
-use Rattle.ring.specs.State.{sizeOf}
-use Rattle.ring.specs.Shape.{sizeFits}
-use Rattle.ring.specs.Actions.{Decoded, decodedFrom, coded, encoded}
-use Rattle.ring.specs.Replay.{answerNumbers, over, ranRoom, roomFits}
-use Rattle.ring.specs.declared.state.Action.{Action}
-use Rattle.ring.specs.declared.state.Refusal.{Refusal}
+use Rattle.rules.specs.State.{sizeOf}
+use Rattle.rules.specs.Shape.{sizeFits}
+use Rattle.rules.specs.Actions.{Decoded, decodedFrom, coded, encoded}
+use Rattle.rules.specs.Replay.{answerNumbers, over, ranRoom, roomFits}
+use Rattle.rules.specs.declared.state.Action.{Action}
+use Rattle.rules.specs.declared.state.Refusal.{Refusal}
 use Rattle.trace.specs.Header.{mostLength, markEnd, versionEnd, firstAction, plainByte, headerOf}
 use Rattle.trace.specs.Replays.{walkPlace, walkBytes, walkActions, walked, frontRing, replayedFrom, roomFrom}
 use Rattle.trace.specs.Encode.{headerBytes, put, kept, placeFor, headerPlace, actionPlace}

@@ -5,12 +5,12 @@ use mathlib.Core.List.{List, [], _∷_, _++_}
 use Prim.Native.Nat.{ℕ, _+_, _/_, _%_}
 use lib.Dec.{ltb}
 use lib.ListN.{length, take, drop}
-use Rattle.ring.specs.Lists.{first}
-use Rattle.ring.specs.State.{sizeOf}
-use Rattle.ring.specs.Shape.{sizeFits}
-use Rattle.ring.specs.Actions.{coded}
-use Rattle.ring.specs.declared.state.Refusal.the-variants.{Mark, Sizes, Room}
-use Rattle.ring.specs.declared.state.Action.{Action}
+use Rattle.rules.specs.Lists.{first}
+use Rattle.rules.specs.State.{sizeOf}
+use Rattle.rules.specs.Shape.{sizeFits}
+use Rattle.rules.specs.Actions.{coded}
+use Rattle.rules.specs.declared.state.Refusal.the-variants.{Mark, Sizes, Room}
+use Rattle.rules.specs.declared.state.Action.{Action}
 use Rattle.trace.specs.Header.{mostLength, letterP, letterT, letterR, version, firstAction}
 use Rattle.trace.specs.declared.parts.Put.{Put}
 use Rattle.trace.specs.declared.parts.Put.the-variants.{At, Refused}

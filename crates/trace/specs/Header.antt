@@ -6,12 +6,12 @@ use mathlib.Core.List.{List, [], _∷_}
 use Prim.Native.Nat.{ℕ, _+_, _*_}
 use lib.Dec.{eqb, leb, ltb}
 use lib.ListN.{length}
-use Rattle.ring.specs.Limits.{plainMode}
-use Rattle.ring.specs.Lists.{first, every}
-use Rattle.ring.specs.State.{sizeOf}
-use Rattle.ring.specs.Shape.{sizeFits}
-use Rattle.ring.specs.Actions.{byteAt}
-use Rattle.ring.specs.declared.state.Refusal.the-variants.{Mark, Version, Sizes}
+use Rattle.rules.specs.Limits.{plainMode}
+use Rattle.rules.specs.Lists.{first, every}
+use Rattle.rules.specs.State.{sizeOf}
+use Rattle.rules.specs.Shape.{sizeFits}
+use Rattle.rules.specs.Actions.{byteAt}
+use Rattle.rules.specs.declared.state.Refusal.the-variants.{Mark, Version, Sizes}
 use Rattle.trace.specs.declared.parts.Header.{Header}
 use Rattle.trace.specs.declared.parts.Header.the-variants.{Ready, Refused}
 

@@ -7,16 +7,18 @@ use mathlib.Core.List.{List}
 use Prim.Native.Nat.{ℕ, _+_}
 use lib.Dec.{eqb, ltb}
 use lib.ListN.{length, drop}
-use Rattle.ring.specs.State.{sizeOf}
-use Rattle.ring.specs.SetUp.{freshRing}
-use Rattle.ring.specs.Actions.{Decoded, codedAt, decodedFrom}
-use Rattle.ring.specs.Replay.{ringAfter, replay, refusedReplay, ranRoom, roomFits}
-use Rattle.ring.specs.declared.state.Refusal.the-variants as refusal
-use Rattle.ring.specs.declared.state.Answer.{Answer}
-use Rattle.ring.specs.declared.state.Answer.the-variants as answer
+use Rattle.ring.specs.Held.{stateOf}
+use Rattle.rules.specs.State.{sizeOf}
+use Rattle.rules.specs.SetUp.{freshRing}
+use Rattle.rules.specs.Actions.{Decoded, codedAt, decodedFrom}
+use Rattle.rules.specs.Replay.{ringAfter, ranRoom, roomFits}
+use Rattle.ring.specs.Replay.{replay, refusedReplay}
+use Rattle.rules.specs.declared.state.Refusal.the-variants as refusal
+use Rattle.rules.specs.declared.state.Answer.{Answer}
+use Rattle.rules.specs.declared.state.Answer.the-variants as answer
 use Rattle.ring.specs.declared.state.Replay.{Replay}
-use Rattle.ring.specs.declared.state.Ring.{Ring}
-use Rattle.ring.specs.declared.actions.Coded.the-variants.{Broken}
+use Rattle.rules.specs.declared.state.State.{State}
+use Rattle.rules.specs.declared.actions.Coded.the-variants.{Broken}
 use Rattle.trace.specs.Header.{headerOf}
 use Rattle.trace.specs.declared.parts.Header.{Header}
 use Rattle.trace.specs.declared.parts.Header.the-variants.{Ready, Refused}
@@ -37,15 +39,15 @@ abbrev pub wholeTo : ℕ → ℕ → Answer
 wholeTo len stop = cond (eqb stop len) answer.Accepted (answer.Refused refusal.Action)
 
 -- the actions made one by one from ring r; the stop is "the offset of that action's first byte"
-abbrev pub walked : ℕ → Ring → Decoded → Replay
+abbrev pub walked : ℕ → State → Decoded → Replay
 walked len r d = replay (ringAfter r (d .actions)) (wholeTo len (d .stop)) (length (d .actions)) (d .stop)
 
 -- a run of the bytes from a place on, told as one of all of them
 abbrev pub toldFrom : ℕ → ℕ → Replay → Replay
-toldFrom len from run = replay (run .ring) (wholeTo len (from + run .stop)) (run .made) (from + run .stop)
+toldFrom len from run = replay (stateOf (run .ring)) (wholeTo len (from + run .stop)) (run .made) (from + run .stop)
 
 -- the ring of the front
-abbrev pub frontRing : ℕ → ℕ → ℕ → Ring
+abbrev pub frontRing : ℕ → ℕ → ℕ → State
 frontRing pages slots mode = freshRing (sizeOf pages slots mode)
 
 -- by what the front says: a refusal, with the plain ring; or the actions on its ring, where the room lent has a place for an answer to each byte

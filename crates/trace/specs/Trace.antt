@@ -5,15 +5,16 @@ use mathlib.Core.Bool.{true}
 use mathlib.Core.List.{List, [], _∷_, _++_}
 use Prim.Native.Nat.{ℕ, _*_, _≤_}
 use lib.ListN.{length}
-use Rattle.ring.specs.Limits.{mostCount}
-use Rattle.ring.specs.State.{sizeOf}
-use Rattle.ring.specs.Shape.{sizeFits}
-use Rattle.ring.specs.Actions.{decodedFrom, encoded}
-use Rattle.ring.specs.SetUp.{freshRing}
-use Rattle.ring.specs.Replay.{ringAfter, answersOf, answerNumbers, laid, over, replay}
-use Rattle.ring.specs.declared.state.Answer.the-variants.{Accepted}
-use Rattle.ring.specs.declared.state.Action.{Action}
-use Rattle.ring.specs.declared.state.Action.the-variants.{Begin, Write, Read}
+use Rattle.rules.specs.Limits.{mostCount}
+use Rattle.rules.specs.State.{sizeOf}
+use Rattle.rules.specs.Shape.{sizeFits}
+use Rattle.rules.specs.Actions.{decodedFrom, encoded}
+use Rattle.rules.specs.SetUp.{freshRing}
+use Rattle.rules.specs.Replay.{ringAfter, answersOf, answerNumbers, laid, over}
+use Rattle.ring.specs.Replay.{replay}
+use Rattle.rules.specs.declared.state.Answer.the-variants.{Accepted}
+use Rattle.rules.specs.declared.state.Action.{Action}
+use Rattle.rules.specs.declared.state.Action.the-variants.{Begin, Write, Read}
 use Rattle.trace.specs.Header.{mostLength, firstAction, headerOf}
 use Rattle.trace.specs.Replays.{replayedFrom, roomFrom}
 use Rattle.trace.specs.Encode.{headerBytes, headerPlace, headerPut, actionPlace, actionPut}

@@ -3,7 +3,7 @@ ghost use mathlib.Core.Path.{_≡_};
 ghost use Prim.Native.Nat.{_+_, _<_, _≤_, _%_};
 ghost use mathlib.Core.List.{[], _∷_};
 ghost use lib.ListN.{length};
-ghost use Rattle.ring.specs.Actions.{beginCode, beginLength, valueBytes, coded};
+ghost use Rattle.rules.specs.Actions.{beginCode, beginLength, valueBytes, coded};
 ghost use Rattle.trace.specs.Header.{firstAction};
 ghost use Rattle.trace.specs.Encode.{headerBytes, put, placeFor, headerPlace, actionPlace, headerPut, actionPut};
 use crate::parts::FIRST_ACTION;

@@ -1,7 +1,7 @@
 // A trace that is read: a struct that keeps hold of its bytes, and thin functions over it, each proved by hand. `replay` has plain parameters, and
 // whoever calls it needs no proof by hand.
 ghost use mathlib.Core.Path.{_≡_};
-ghost use Rattle.ring.specs.Actions.{codedAt};
+ghost use Rattle.rules.specs.Actions.{codedAt};
 ghost use Rattle.trace.specs.Header.{firstAction};
 ghost use Rattle.trace.specs.Replays.{replayedFrom, roomFrom};
 use crate::parts::FIRST_ACTION;

@@ -3,8 +3,8 @@ use mathlib.Core.Path.{_≡_, ap, _∙_}
 use Prim.Native.Nat.{_-_, _≤_}
 use native.Mathlib.Omega.{arith}
 use borrow.Author.Needs.{needs}
-use Rattle.ring.specs.Answers.{outcome}
-use Rattle.ring.specs.Act.{act}
+use Rattle.ring.specs.Held.{stateOf, outcome}
+use Rattle.rules.specs.Act.{act}
 use Rattle.bench.specs.Loop.{ran}
 use Rattle.bench.proofs.Loop.{ran-next, handed-at}
 use Rattle.bench.proofs.bench_by_act.Statement.{statement}
@@ -23,7 +23,7 @@ loop-holds c = (omega arith, c .fresh .ensures)
 loop-again : tie.Need-loop-again Inv-loop μ-loop
 loop-again c =
     let l = c .before .before .before .loop in
-    (omega arith, ran-next (l .i) (l .inv .1) (c .act .ensures ∙ ap (act (l .s .ring)) (c .before .next-action .ensures)))
+    (omega arith, ran-next (l .i) (l .inv .1) (c .act .ensures ∙ ap (act (stateOf (l .s .ring))) (c .before .next-action .ensures)))
 
 returns : tie.Need-returns Inv-loop μ-loop
 returns c = handed-at (c .before .loop .i) (c .before .before .before .args .actions) (c .before .loop .inv .1) (omega arith)

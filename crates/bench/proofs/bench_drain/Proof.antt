@@ -4,7 +4,8 @@ use Prim.Native.Nat.{_-_}
 use native.Mathlib.Omega.{arith}
 use borrow.Author.Needs.{needs}
 use lib.ListN.{length}
-use Rattle.ring.specs.Drain.{drainRule, drainedInto, laidOut}
+use Rattle.rules.specs.Drain.{drainRule}
+use Rattle.ring.specs.Held.{stateOf, drainedInto, laidOut}
 use Rattle.ring.specs.declared.state.DrainedInto.{DrainedInto}
 use Rattle.ring.specs.declared.state.Replay.{Replay}
 use Rattle.bench.proofs.Drain.{again}
@@ -22,7 +23,7 @@ loop-again c =
     let first = c .before .before .before .before .before .before .before .before .drain-into in
     let start = c .before .before .before .before .before .before .before .before .before .before .before .before .before .before .before .before .before .before .args .room .now in
     let l = c .before .before .before .before .before .loop in
-    let same = again (c .before .before .before .before .before .before .before .before .before .before .before .before .before .replay .result .ring) start {made = l .made} (l .inv .1 ∙ first .ensures .0) (l .inv .0 ∙ first .ensures .1) (ap length (l .inv .0) ∙ first .kept .1 .0)
+    let same = again (stateOf (c .before .before .before .before .before .before .before .before .before .before .before .before .before .replay .result .ring)) start {made = l .made} (l .inv .1 ∙ first .ensures .0) (l .inv .0 ∙ first .ensures .1) (ap length (l .inv .0) ∙ first .kept .1 .0)
     (c .before .before .drain-into2 .ensures .0) (c .before .before .drain-into2 .ensures .1) in
     (same .0 ∙ l .inv .0, same .1 ∙ l .inv .1)
 
@@ -35,8 +36,8 @@ returns c =
     let l = c .before .loop in
     let start = c .before .before .before .before .before .before .before .before .before .before .before .before .before .before .args .room .now in
     let ring = c .before .before .before .before .before .before .before .before .before .replay .ensures .0 in (
-      ap (λ (f : DrainedInto). f .count) (l .inv .1 ∙ first .ensures .0) ∙ ap (λ (r : Replay). drainedInto (drainRule (r .ring) (length start)) .count) ring,
-      (c .before .before .before .before .before .before .before .before .before .replay .ensures .1, l .inv .0 ∙ first .ensures .1 ∙ ap (λ (r : Replay). laidOut (drainRule (r .ring) (length start)) start) ring),
+      ap (λ (f : DrainedInto). f .count) (l .inv .1 ∙ first .ensures .0) ∙ ap (λ (r : Replay). drainedInto (drainRule (stateOf (r .ring)) (length start)) .count) ring,
+      (c .before .before .before .before .before .before .before .before .before .replay .ensures .1, l .inv .0 ∙ first .ensures .1 ∙ ap (λ (r : Replay). laidOut (drainRule (stateOf (r .ring)) (length start)) start) ring),
     )
 
 pub bench-drain-spec : {M : Type 1} → statement M

@@ -10,12 +10,12 @@ use types.Run.{OneOf}
 use denote.Enum.Declared.{tagOf}
 use lib.Dec.{eqb, leb, ltb}
 use lib.ListN.{length}
-use Rattle.ring.specs.declared.state.Action.{Action}
-use Rattle.ring.specs.declared.actions.Coded.{Coded}
-use Rattle.ring.specs.declared.actions.Coded.the-variants.{Whole, Broken, End}
-use Rattle.ring.specs.Actions.{Decoded, beginCode, writeCode, readCode, beginLength, byteAt, beginAt, codedAt, stopped, before, goOn, decodedWithin, decodedFrom, Stops, Decodes}
-use Rattle.ring.proofs.actions.Coded.{the-type}
-use Rattle.ring.proofs.Lists.{by-cond}
+use Rattle.rules.specs.declared.state.Action.{Action}
+use Rattle.rules.specs.declared.actions.Coded.{Coded}
+use Rattle.rules.specs.declared.actions.Coded.the-variants.{Whole, Broken, End}
+use Rattle.rules.specs.Actions.{Decoded, beginCode, writeCode, readCode, beginLength, byteAt, beginAt, codedAt, stopped, before, goOn, decodedWithin, decodedFrom, Stops, Decodes}
+use Rattle.rules.proofs.actions.Coded.{the-type}
+use Rattle.rules.proofs.Lists.{by-cond}
 
 -- a whole action has a byte at least, and ends within the bytes
 abbrev Moves : List ℕ → ℕ → Coded → Type 0

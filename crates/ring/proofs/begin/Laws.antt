@@ -5,10 +5,10 @@ use mathlib.Core.Bool.{Bool, true, false}
 use Prim.Native.Nat.{ℕ}
 use borrow.Author.Tests.{eqb-false}
 use lib.Dec.{eqb}
-use Rattle.ring.specs.Limits.{mostDepth, mostCount}
-use Rattle.ring.specs.Refusals.{beginVerdict}
-use Rattle.ring.specs.declared.moves.Verdict.the-variants.{Allowed}
-use Rattle.ring.proofs.Lists.{by-bool}
+use Rattle.rules.specs.Limits.{mostDepth, mostCount}
+use Rattle.rules.specs.Refusals.{beginVerdict}
+use Rattle.rules.specs.declared.moves.Verdict.the-variants.{Allowed}
+use Rattle.rules.proofs.Lists.{by-bool}
 use Rattle.ring.proofs.moves.Laws.{refused-is-not-allowed}
 
 pub record Allows (fits : Bool) (depth begun : ℕ) : Type 0 where

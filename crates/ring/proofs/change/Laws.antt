@@ -9,33 +9,33 @@ use borrow.Author.Tests.{eqb-false}
 use lib.Dec.{eqb}
 use lib.ListN.{set}
 use lib.Seq.{set-getD}
-use Rattle.ring.specs.Limits.{mostDepth, mostCount}
-use Rattle.ring.specs.State.{noWriter, withStack, top}
-use Rattle.ring.specs.Answers.{Outcome}
-use Rattle.ring.specs.Codes.{numbersOf}
-use Rattle.ring.specs.Refusals.{beginVerdict, writeVerdict, judged}
-use Rattle.ring.specs.Shape.{inShape}
-use Rattle.ring.specs.Begin.{begin}
-use Rattle.ring.specs.Write.{moved, planWrite}
-use Rattle.ring.specs.Read.{fetched, planRead}
-use Rattle.ring.specs.Act.{act}
-use Rattle.ring.specs.Pieces.{StoresFit}
-use Rattle.ring.specs.Change.{judgedChange, begunChange, movedChange, fetchedChange, changeOf, changed, ChangeFits}
-use Rattle.ring.specs.declared.state.Writer.{Writer}
-use Rattle.ring.specs.declared.state.Refusal.{Refusal}
-use Rattle.ring.specs.declared.state.Refusal.the-variants.{Depth, Nobody, Worn}
-use Rattle.ring.specs.declared.state.Action.{Action}
-use Rattle.ring.specs.declared.state.Action.the-variants.{Begin, Write, Read}
-use Rattle.ring.specs.declared.state.Ring.{Ring}
-use Rattle.ring.specs.declared.moves.Verdict.{Verdict}
-use Rattle.ring.specs.declared.moves.Verdict.the-variants.{Allowed, Refused}
-use Rattle.ring.specs.declared.moves.Move.{Move}
-use Rattle.ring.specs.declared.moves.Move.the-variants.{Become, Reserve, Drop, Mark, Promote, Clear, Push, Fill, Pend, Commit}
-use Rattle.ring.specs.declared.moves.Fetch.{Fetch}
-use Rattle.ring.specs.declared.moves.Fetch.the-variants as fetch
-use Rattle.ring.specs.declared.moves.Change.{Change}
-use Rattle.ring.proofs.Lists.{by-cond}
-use Rattle.ring.proofs.shape.Laws.{InShape}
+use Rattle.rules.specs.Limits.{mostDepth, mostCount}
+use Rattle.rules.specs.State.{noWriter, withStack, top}
+use Rattle.rules.specs.Answers.{Outcome}
+use Rattle.rules.specs.Codes.{numbersOf}
+use Rattle.rules.specs.Refusals.{beginVerdict, writeVerdict, judged}
+use Rattle.rules.specs.Shape.{inShape}
+use Rattle.rules.specs.Begin.{begin}
+use Rattle.rules.specs.Write.{moved, planWrite}
+use Rattle.rules.specs.Read.{fetched, planRead}
+use Rattle.rules.specs.Act.{act}
+use Rattle.rules.specs.Pieces.{StoresFit}
+use Rattle.rules.specs.Change.{judgedChange, begunChange, movedChange, fetchedChange, changeOf, changed, ChangeFits}
+use Rattle.rules.specs.declared.state.Writer.{Writer}
+use Rattle.rules.specs.declared.state.Refusal.{Refusal}
+use Rattle.rules.specs.declared.state.Refusal.the-variants.{Depth, Nobody, Worn}
+use Rattle.rules.specs.declared.state.Action.{Action}
+use Rattle.rules.specs.declared.state.Action.the-variants.{Begin, Write, Read}
+use Rattle.rules.specs.declared.state.State.{State}
+use Rattle.rules.specs.declared.moves.Verdict.{Verdict}
+use Rattle.rules.specs.declared.moves.Verdict.the-variants.{Allowed, Refused}
+use Rattle.rules.specs.declared.moves.Move.{Move}
+use Rattle.rules.specs.declared.moves.Move.the-variants.{Become, Reserve, Drop, Mark, Promote, Clear, Push, Fill, Pend, Commit}
+use Rattle.rules.specs.declared.moves.Fetch.{Fetch}
+use Rattle.rules.specs.declared.moves.Fetch.the-variants as fetch
+use Rattle.rules.specs.declared.moves.Change.{Change}
+use Rattle.rules.proofs.Lists.{by-cond}
+use Rattle.rules.proofs.shape.Laws.{InShape}
 use Rattle.ring.proofs.write.Laws.{top-fits, plan-fits}
 use Rattle.ring.proofs.read.Laws as read
 use Rattle.ring.proofs.pieces.Laws.{stores-fit, read-stores-fit}
@@ -43,11 +43,11 @@ use Rattle.ring.proofs.pieces.Laws.{stores-fit, read-stores-fit}
 -- ---- the pieces stored are the action
 
 -- an outcome and a change of the ring r tell the same
-pub record Agrees (r : Ring) (o : Outcome) (c : Change) : Type 0 where
+pub record Agrees (r : State) (o : Outcome) (c : Change) : Type 0 where
   pub ring : o .ring ≡ changed c r
   pub answer : numbersOf (o .answer) ≡ c .answer
 
-module _ (r : Ring) where
+module _ (r : State) where
   -- the top record stored as it was
   same-stack : r .stack ≡ set (r .stack) (r .depth - 1) (top r)
   same-stack = sym (set-getD (r .stack) (r .depth - 1) noWriter)
@@ -94,7 +94,7 @@ module _ (r : Ring) where
 
 -- ---- what the code asks of the pieces
 
-module _ (r : Ring) (s : InShape r) where
+module _ (r : State) (s : InShape r) where
   pub change-fits : (a : Action) → ChangeFits a (top r) (r .size) (r .places) (r .counts) (r .depth) (r .reader) (r .words) (r .used)
   change-fits (Begin v) = (s .depth, s .begun)
   change-fits Write =

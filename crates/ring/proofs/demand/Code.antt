@@ -5,18 +5,19 @@
 use mathlib.Core.Path.{_≡_, refl, sym, ap, _∙_, subst}
 use mathlib.Core.List.{List, [], _∷_}
 use Prim.Native.Nat.{ℕ}
-use Rattle.ring.specs.Answers.{Outcome, outcome}
-use Rattle.ring.specs.History.{Run, after, runOf, nothing, recall, valueIn}
-use Rattle.ring.specs.Demand.{Claim, CompleteClaim, Whole}
+use Rattle.rules.specs.Answers.{Outcome}
+use Rattle.ring.specs.Held.{stateOf, ringOf, outcome}
+use Rattle.rules.specs.History.{Run, after, runOf, nothing, recall, valueIn}
+use Rattle.rules.specs.Demand.{Claim, CompleteClaim, Whole}
 use Rattle.ring.specs.Code.{Made, asked, runTold, runFrom, Follow, CodeDemand3}
-use Rattle.ring.specs.declared.state.Action.{Action}
-use Rattle.ring.specs.declared.state.Receipt.{Receipt}
+use Rattle.rules.specs.declared.state.Action.{Action}
+use Rattle.rules.specs.declared.state.Receipt.{Receipt}
 use Rattle.ring.specs.declared.state.Ring.{Ring}
 use Rattle.ring.specs.declared.state.Step.{Step}
 use Rattle.ring.proofs.state.Ring.fresh.Reads as fresh-promise
 use Rattle.ring.proofs.state.Ring.act.Reads as act-promise
 use Rattle.ring.proofs.state.Ring.receipt.Reads as receipt-promise
-use Rattle.ring.proofs.demand.Theorem.{demand-3}
+use Rattle.rules.proofs.demand.Theorem.{demand-3}
 
 -- ---- what callers learn of the functions: of the parameters, the result, and the parameters again, which are passed by value and stay
 
@@ -35,7 +36,7 @@ ReceiptGives r c = receipt-promise.Learnt tt (r, tt) c (r, tt)
 abbrev by : Run → Action → Outcome → Run
 by r a o = record { now = o .ring; past = recall (valueIn a) (r .now) (o .answer) (r .past) }
 
-told-after : (r : Run) (made : List Made) → Follow FreshGives ActGives ReceiptGives (r .now) made → runTold r made ≡ after r (asked made)
+told-after : (r : Run) (made : List Made) → Follow FreshGives ActGives ReceiptGives (ringOf (r .now)) made → runTold r made ≡ after r (asked made)
 told-after r [] f = refl
 told-after r (m ∷ rest) f =
     told-after (by r (m .action) (outcome (m .step))) rest (f .1)
@@ -45,7 +46,7 @@ pub code-demand-3 : CodeDemand3 FreshGives ActGives ReceiptGives
 code-demand-3 pages slots mode first given accepted made follows c receipt =
     let r = runFrom first made in
     let ruled : r ≡ runOf pages slots mode (asked made) =
-    told-after (record { now = first .ring; past = nothing }) made follows
+    told-after (record { now = stateOf (first .ring); past = nothing }) made follows
     ∙ ap (λ (o : Outcome). after (record { now = o .ring; past = nothing }) (asked made)) given in
     let rulesAccept = sym (ap (λ (o : Outcome). o .answer) given) ∙ accepted in
     let whole : Whole r = subst Whole (sym ruled) (demand-3 pages slots mode rulesAccept (asked made)) in

@@ -11,26 +11,27 @@ use borrow.Author.Tests.{leb-false, ltb-true, ltb-false}
 use lib.Dec.{leb, ltb}
 use lib.ListN.{length, length-append}
 use lib.Seq.{sets}
-use Rattle.ring.specs.State.{withHanded}
-use Rattle.ring.specs.Shape.{inShape}
-use Rattle.ring.specs.Replay.{over}
-use Rattle.ring.specs.Limits.{mostInRow}
-use Rattle.ring.specs.Drain.{Drain, noMore, drained, drainedInto, laidOut, eventsFrom, lastAfter}
-use Rattle.ring.specs.Turn.{turnOf, turned}
-use Rattle.ring.specs.declared.state.Ring.{Ring}
-use Rattle.ring.specs.declared.state.Last.{Last}
-use Rattle.ring.specs.declared.state.Last.the-variants.{None}
+use Rattle.rules.specs.State.{withHanded}
+use Rattle.rules.specs.Shape.{inShape}
+use Rattle.rules.specs.Replay.{over}
+use Rattle.rules.specs.Limits.{mostInRow}
+use Rattle.rules.specs.Drain.{Drain, noMore, drained, eventsFrom, lastAfter}
+use Rattle.ring.specs.Held.{ringOf, drainedInto, laidOut}
+use Rattle.rules.specs.Turn.{turnOf, turned}
+use Rattle.rules.specs.declared.state.State.{State}
+use Rattle.rules.specs.declared.state.Last.{Last}
+use Rattle.rules.specs.declared.state.Last.the-variants.{None}
 use Rattle.ring.specs.declared.state.DrainedInto.{DrainedInto}
-use Rattle.ring.specs.declared.moves.Turn.{Turn}
-use Rattle.ring.proofs.Lists.{by-bool, length-tabulate}
-use Rattle.ring.proofs.shape.Laws.{in-shape}
-use Rattle.ring.proofs.read.Kept.{parts, reshaped}
+use Rattle.rules.specs.declared.moves.Turn.{Turn}
+use Rattle.rules.proofs.Lists.{by-bool, length-tabulate}
+use Rattle.rules.proofs.shape.Laws.{in-shape}
+use Rattle.rules.proofs.read.Kept.{parts, reshaped}
 use Rattle.ring.proofs.replay.Laws.{over-length, sets-over}
 use Rattle.ring.proofs.turn.Laws.{goOn, go-on, beforeAll, handed-fits, Turned, turn-drains}
 
 -- ---- the shape, and how many were handed out
 
-module _ (r : Ring) where
+module _ (r : State) where
   -- the shape, from that with handed at 0 and counts that agree
   handed-shape : inShape (withHanded 0 r) ≡ true → r .counts .handed + r .counts .overwritten ≤ r .counts .committed → inShape r ≡ true
   handed-shape h le =
@@ -51,20 +52,20 @@ module _ (r : Ring) where
 -- ---- the loop
 
 -- a drain that told these events
-abbrev ended : List ℕ → Ring → Last → Drain
+abbrev ended : List ℕ → State → Last → Drain
 ended es r last = record { ring = r; events = es; last = last }
 
-abbrev pub drainedIntoBy : Ring → Last → ℕ → DrainedInto
-drainedIntoBy r last count = record { ring = r; last = last; count = count }
+abbrev pub drainedIntoBy : State → Last → ℕ → DrainedInto
+drainedIntoBy r last count = record { ring = ringOf r; last = last; count = count }
 
-abbrev whole : Ring → List ℕ → Drain
+abbrev whole : State → List ℕ → Drain
 whole r room = drained mostInRow (length room) r None
 
 beforeAll-append : (xs ys : List ℕ) (d : Drain) → beforeAll xs (beforeAll ys d) ≡ beforeAll (xs ++ ys) d
 beforeAll-append xs ys d = ap (λ (l : List ℕ). ended l (d .ring) (d .last)) (sym (append-assoc xs ys (d .events)))
 
 -- the ring r0 has become r, the room room0 has become room, `at` elements are laid, and what is left to do is what is left of the drain
-pub record Progress (r0 : Ring) (room0 : List ℕ) (r : Ring) (room : List ℕ) (at left : ℕ) (last : Last) : Type 0 where
+pub record Progress (r0 : State) (room0 : List ℕ) (r : State) (room : List ℕ) (at left : ℕ) (last : Last) : Type 0 where
   pub events : List ℕ
   pub laid : room ≡ over events room0
   pub count : at ≡ length events
@@ -73,7 +74,7 @@ pub record Progress (r0 : Ring) (room0 : List ℕ) (r : Ring) (room : List ℕ) 
   pub agree : r .counts .handed + r .counts .overwritten ≤ r .counts .committed + 1
   pub rest : whole r0 room0 ≡ beforeAll events (goOn (length room0 - at) left r last)
 
-pub start : (r : Ring) (room : List ℕ) → inShape r ≡ true → Progress r room r room 0 mostInRow None
+pub start : (r : State) (room : List ℕ) → inShape r ≡ true → Progress r room r room 0 mostInRow None
 start r room h =
     let s = in-shape r h in
     let n : length room ≡ length room - 0 = omega arith in
@@ -87,7 +88,7 @@ start r room h =
       rest = go-on (length room) r None ∙ ap (λ (k : ℕ). goOn k mostInRow r None) n;
     }
 
-module _ {r0 : Ring} {room0 : List ℕ} {r : Ring} {room : List ℕ} {at left : ℕ} {last : Last} (p : Progress r0 room0 r room at left last) where
+module _ {r0 : State} {room0 : List ℕ} {r : State} {room : List ℕ} {at left : ℕ} {last : Last} (p : Progress r0 room0 r room at left last) where
   pub room-length : length room ≡ length room0
   room-length =
       let n = p .count in
@@ -109,7 +110,7 @@ module _ {r0 : Ring} {room0 : List ℕ} {r : Ring} {room : List ℕ} {at left : 
   turn-does lt some le = turn-drains r (in-order le) (length room0 - at) left last (omega arith) some
 
   pub turn-on :
-      {r' : Ring} {room' : List ℕ} {t : Turn} →
+      {r' : State} {room' : List ℕ} {t : Turn} →
       at < length room0 →
       0 < left →
       r .counts .handed + r .counts .overwritten ≤ r .counts .committed →
@@ -133,14 +134,14 @@ module _ {r0 : Ring} {room0 : List ℕ} {r : Ring} {room : List ℕ} {at left : 
             ∙ sets-over (p .events) es room0 (omega arith);
         count = let l = length-append (p .events) es in omega arith;
         within = omega arith;
-        shape = subst (λ (q : Ring). inShape (withHanded 0 q) ≡ true) (sym ring) (does .shape);
-        agree = subst (λ (q : Ring). q .counts .handed + q .counts .overwritten ≤ q .counts .committed + 1) (sym ring) (does .agree);
+        shape = subst (λ (q : State). inShape (withHanded 0 q) ≡ true) (sym ring) (does .shape);
+        agree = subst (λ (q : State). q .counts .handed + q .counts .overwritten ≤ q .counts .committed + 1) (sym ring) (does .agree);
         rest =
             p .rest
             ∙ ap (beforeAll (p .events)) (does .rest)
             ∙ beforeAll-append (p .events) es (goOn (length room0 - at - t .count) (t .left) (turned t r) (t .last))
             ∙ ap (λ (i : ℕ). beforeAll (p .events ++ es) (goOn i (t .left) (turned t r) (t .last))) k
-            ∙ ap (λ (q : Ring). beforeAll (p .events ++ es) (goOn (length room0 - (at + t .count)) (t .left) q (t .last))) (sym ring);
+            ∙ ap (λ (q : State). beforeAll (p .events ++ es) (goOn (length room0 - (at + t .count)) (t .left) q (t .last))) (sym ring);
       }
 
   -- where the loop ends: the room is full, no Read is left, or the ring is out of shape

@@ -9,21 +9,21 @@ use native.Mathlib.Omega.{arith}
 use lib.ListN.{getD}
 use types.Run.{OneOf}
 use denote.Enum.Declared.{tagOf}
-use Rattle.ring.specs.declared.state.PageNo.{PageNo}
-use Rattle.ring.specs.declared.state.WriterPhase.{WriterPhase}
-use Rattle.ring.specs.declared.state.Answer.{Answer}
-use Rattle.ring.specs.declared.state.Refusal.{Refusal}
-use Rattle.ring.specs.declared.moves.Verdict.the-variants.{Allowed, Refused}
-use Rattle.ring.specs.declared.moves.Move.{Move}
-use Rattle.ring.specs.declared.moves.Move.the-variants.{Become, Reserve, Drop, Mark, Promote, Clear, Push, Fill, Pend, Commit}
-use Rattle.ring.specs.declared.moves.Fetch.{Fetch}
-use Rattle.ring.specs.declared.moves.Fetch.the-variants as fetch
-use Rattle.ring.specs.declared.state.ReadingNo.{ReadingNo}
-use Rattle.ring.specs.declared.moves.Stores.{Stores}
-use Rattle.ring.specs.declared.moves.Stores.the-variants as stores
-use Rattle.ring.proofs.moves.Move as move-type
-use Rattle.ring.proofs.moves.Fetch as fetch-type
-use Rattle.ring.proofs.moves.Stores as stores-type
+use Rattle.rules.specs.declared.state.PageNo.{PageNo}
+use Rattle.rules.specs.declared.state.WriterPhase.{WriterPhase}
+use Rattle.rules.specs.declared.state.Answer.{Answer}
+use Rattle.rules.specs.declared.state.Refusal.{Refusal}
+use Rattle.rules.specs.declared.moves.Verdict.the-variants.{Allowed, Refused}
+use Rattle.rules.specs.declared.moves.Move.{Move}
+use Rattle.rules.specs.declared.moves.Move.the-variants.{Become, Reserve, Drop, Mark, Promote, Clear, Push, Fill, Pend, Commit}
+use Rattle.rules.specs.declared.moves.Fetch.{Fetch}
+use Rattle.rules.specs.declared.moves.Fetch.the-variants as fetch
+use Rattle.rules.specs.declared.state.ReadingNo.{ReadingNo}
+use Rattle.rules.specs.declared.moves.Stores.{Stores}
+use Rattle.rules.specs.declared.moves.Stores.the-variants as stores
+use Rattle.rules.proofs.moves.Move as move-type
+use Rattle.rules.proofs.moves.Fetch as fetch-type
+use Rattle.rules.proofs.moves.Stores as stores-type
 
 pub refused-is-not-allowed : (why : Refusal) → Refused why ≡ Allowed → ⊥
 refused-is-not-allowed why h = let z : _≡_ {A = ℕ} 0 1 = cc in omega arith

@@ -10,46 +10,46 @@ use types.Run.{OneOf}
 use denote.Enum.Declared.{tagOf}
 use borrow.Author.Tests.{ne-eqb}
 use lib.ListN.{set}
-use Rattle.ring.specs.Limits.{mostPages, mostSlots}
-use Rattle.ring.specs.State.{withStack, withCounts, withPlaces, withDepth, withReader, withHanded, top}
-use Rattle.ring.specs.Shape.{inShape}
-use Rattle.ring.specs.Answers.{Outcome, gives}
-use Rattle.ring.specs.Write.{moved, planWrite, writeRule}
-use Rattle.ring.specs.Read.{fetched, planRead, readRule}
-use Rattle.ring.specs.Pieces.{answerAfter, countsAfter, placesAfter, depthAfter, recordAfter, storesAfter, readAnswer, readHanded, readPlaces, readPhase, readStores, stored, StoresFit, MoveFits, FetchFits}
-use Rattle.ring.specs.declared.state.PageNo.{PageNo}
-use Rattle.ring.specs.declared.state.Size.{Size}
-use Rattle.ring.specs.declared.state.Places.{Places}
-use Rattle.ring.specs.declared.state.Counts.{Counts}
-use Rattle.ring.specs.declared.state.Writer.{Writer}
-use Rattle.ring.specs.declared.state.Reader.{Reader}
-use Rattle.ring.specs.declared.state.Answer.{Answer}
-use Rattle.ring.specs.declared.state.Ring.{Ring}
-use Rattle.ring.specs.declared.moves.Move.{Move}
-use Rattle.ring.specs.declared.moves.Move.the-variants.{Become, Reserve, Drop, Mark, Promote, Clear, Push, Fill, Pend, Commit}
-use Rattle.ring.specs.declared.moves.Fetch.{Fetch}
-use Rattle.ring.specs.declared.moves.Fetch.the-variants as fetch
-use Rattle.ring.specs.declared.moves.Stores.{Stores}
-use Rattle.ring.specs.declared.moves.Stores.the-variants as stores
-use Rattle.ring.proofs.moves.Stores.{the-type}
-use Rattle.ring.proofs.state.Laws.{slotIndex-room}
+use Rattle.rules.specs.Limits.{mostPages, mostSlots}
+use Rattle.rules.specs.State.{withStack, withCounts, withPlaces, withDepth, withReader, withHanded, top}
+use Rattle.rules.specs.Shape.{inShape}
+use Rattle.rules.specs.Answers.{Outcome, gives}
+use Rattle.rules.specs.Write.{moved, planWrite, writeRule}
+use Rattle.rules.specs.Read.{fetched, planRead, readRule}
+use Rattle.rules.specs.Pieces.{answerAfter, countsAfter, placesAfter, depthAfter, recordAfter, storesAfter, readAnswer, readHanded, readPlaces, readPhase, readStores, stored, StoresFit, MoveFits, FetchFits}
+use Rattle.rules.specs.declared.state.PageNo.{PageNo}
+use Rattle.rules.specs.declared.state.Size.{Size}
+use Rattle.rules.specs.declared.state.Places.{Places}
+use Rattle.rules.specs.declared.state.Counts.{Counts}
+use Rattle.rules.specs.declared.state.Writer.{Writer}
+use Rattle.rules.specs.declared.state.Reader.{Reader}
+use Rattle.rules.specs.declared.state.Answer.{Answer}
+use Rattle.rules.specs.declared.state.State.{State}
+use Rattle.rules.specs.declared.moves.Move.{Move}
+use Rattle.rules.specs.declared.moves.Move.the-variants.{Become, Reserve, Drop, Mark, Promote, Clear, Push, Fill, Pend, Commit}
+use Rattle.rules.specs.declared.moves.Fetch.{Fetch}
+use Rattle.rules.specs.declared.moves.Fetch.the-variants as fetch
+use Rattle.rules.specs.declared.moves.Stores.{Stores}
+use Rattle.rules.specs.declared.moves.Stores.the-variants as stores
+use Rattle.rules.proofs.moves.Stores.{the-type}
+use Rattle.rules.proofs.state.Laws.{slotIndex-room}
 use Rattle.ring.proofs.write.Laws.{Allows}
 
 -- ---- Write
 
 -- the outcome with each piece given
-abbrev pub leaves : Ring → Answer → Writer → Counts → Places → ℕ → Stores → Outcome
+abbrev pub leaves : State → Answer → Writer → Counts → Places → ℕ → Stores → Outcome
 leaves r a w counts places depth c =
     gives a (withStack (set (r .stack) (r .depth - 1) w) (withCounts counts (withPlaces places (withDepth depth (stored c r)))))
 
 -- the outcome with each piece as the definitions have it
-abbrev pub leavesBy : Move → Ring → Outcome
+abbrev pub leavesBy : Move → State → Outcome
 leavesBy m r =
     leaves r (answerAfter m (r .counts .taken)) (recordAfter m (top r .value)) (countsAfter m (r .counts) (r .used))
     (placesAfter m (r .places) (r .used)) (depthAfter m (r .depth))
     (storesAfter m (r .size) (r .counts .taken) (top r .value) (r .words))
 
-pub moved-pieces : (m : Move) (r : Ring) → moved m r ≡ leavesBy m r
+pub moved-pieces : (m : Move) (r : State) → moved m r ≡ leavesBy m r
 moved-pieces (Become next a) r = refl
 moved-pieces (Reserve t slot) r = refl
 moved-pieces Drop r = refl
@@ -63,7 +63,7 @@ moved-pieces Commit r = refl
 
 -- a Write that is allowed leaves these pieces
 pub write-leaves :
-    (r : Ring) {m : Move} {a : Answer} {w : Writer} {counts : Counts} {places : Places} {depth : ℕ} {c : Stores} →
+    (r : State) {m : Move} {a : Answer} {w : Writer} {counts : Counts} {places : Places} {depth : ℕ} {c : Stores} →
     Allows (inShape r) (r .depth) →
     m ≡ planWrite r →
     a ≡ answerAfter m (r .counts .taken) →
@@ -92,15 +92,15 @@ module _ (size : Size) (taken value : ℕ) (words : List ℕ) (le : size .slots 
 
 -- ---- Read
 
-abbrev pub readLeaves : Ring → Answer → ℕ → Places → Reader → Stores → Outcome
+abbrev pub readLeaves : State → Answer → ℕ → Places → Reader → Stores → Outcome
 readLeaves r a handed places reader c = gives a (withReader reader (withPlaces places (withHanded handed (stored c r))))
 
-abbrev pub readLeavesBy : Fetch → Ring → Outcome
+abbrev pub readLeavesBy : Fetch → State → Outcome
 readLeavesBy f r =
     readLeaves r (readAnswer f (r .size) (r .places) (r .numbers) (r .values)) (readHanded f (r .counts .handed)) (readPlaces f (r .places))
     (readPhase f (r .reader)) (readStores f (r .places .reader) (r .words))
 
-pub fetched-pieces : (f : Fetch) (r : Ring) → fetched f r ≡ readLeavesBy f r
+pub fetched-pieces : (f : Fetch) (r : State) → fetched f r ≡ readLeavesBy f r
 fetched-pieces fetch.Event r = refl
 fetched-pieces fetch.Empty r = refl
 fetched-pieces fetch.Busy r = refl
@@ -111,7 +111,7 @@ fetched-pieces fetch.Miss r = refl
 
 -- a Read that is allowed leaves these pieces
 pub read-leaves :
-    (r : Ring) {f : Fetch} {a : Answer} {handed : ℕ} {places : Places} {reader : Reader} {c : Stores} →
+    (r : State) {f : Fetch} {a : Answer} {handed : ℕ} {places : Places} {reader : Reader} {c : Stores} →
     inShape r ≡ true →
     f ≡ planRead r →
     a ≡ readAnswer f (r .size) (r .places) (r .numbers) (r .values) →

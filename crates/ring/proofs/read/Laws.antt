@@ -7,27 +7,27 @@ use Prim.Native.Nat.{ℕ, _≤_, _<_}
 use native.Mathlib.Omega.{arith}
 use borrow.Author.Tests.{ltb-true, leb-true}
 use lib.Dec.{ltb, leb}
-use Rattle.ring.specs.Limits.{header}
-use Rattle.ring.specs.Refusals.{readVerdict}
-use Rattle.ring.specs.State.{page, wordAt}
-use Rattle.ring.specs.Words.{pageIn, readerOnCommit, links, findHeader}
-use Rattle.ring.specs.Shape.{readerFits}
-use Rattle.ring.specs.Read.{readLimit, findBy, planReader, planRead}
-use Rattle.ring.specs.Pieces.{FetchFits, EventFits}
-use Rattle.ring.specs.declared.state.PageNo.{PageNo}
-use Rattle.ring.specs.declared.state.ReaderPhase.{ReaderPhase}
-use Rattle.ring.specs.declared.state.ReaderPhase.the-variants as phase
-use Rattle.ring.specs.declared.state.Ring.{Ring}
-use Rattle.ring.specs.declared.moves.Search.{Search}
-use Rattle.ring.specs.declared.moves.Search.the-variants.{At, Nowhere}
-use Rattle.ring.specs.declared.moves.Fetch.{Fetch}
-use Rattle.ring.specs.declared.moves.Fetch.the-variants.{Event, Empty, Busy, Find, Prepare, Swap, Miss}
-use Rattle.ring.specs.declared.moves.Verdict.the-variants.{Allowed}
-use Rattle.ring.proofs.Lists.{by-cond, and-left}
+use Rattle.rules.specs.Limits.{header}
+use Rattle.rules.specs.Refusals.{readVerdict}
+use Rattle.rules.specs.State.{page, wordAt}
+use Rattle.rules.specs.Words.{pageIn, readerOnCommit, links, findHeader}
+use Rattle.rules.specs.Shape.{readerFits}
+use Rattle.rules.specs.Read.{readLimit, findBy, planReader, planRead}
+use Rattle.rules.specs.Pieces.{FetchFits, EventFits}
+use Rattle.rules.specs.declared.state.PageNo.{PageNo}
+use Rattle.rules.specs.declared.state.ReaderPhase.{ReaderPhase}
+use Rattle.rules.specs.declared.state.ReaderPhase.the-variants as phase
+use Rattle.rules.specs.declared.state.State.{State}
+use Rattle.rules.specs.declared.moves.Search.{Search}
+use Rattle.rules.specs.declared.moves.Search.the-variants.{At, Nowhere}
+use Rattle.rules.specs.declared.moves.Fetch.{Fetch}
+use Rattle.rules.specs.declared.moves.Fetch.the-variants.{Event, Empty, Busy, Find, Prepare, Swap, Miss}
+use Rattle.rules.specs.declared.moves.Verdict.the-variants.{Allowed}
+use Rattle.rules.proofs.Lists.{by-cond, and-left}
 use Rattle.ring.proofs.moves.Laws.{refused-is-not-allowed}
-use Rattle.ring.proofs.order.Search.{Tells, search-tells}
-use Rattle.ring.proofs.shape.Laws.{InShape, pages-fit}
-use Rattle.ring.proofs.state.Laws.{slotIndex-room}
+use Rattle.rules.proofs.order.Search.{Tells, search-tells}
+use Rattle.rules.proofs.shape.Laws.{InShape, pages-fit}
+use Rattle.rules.proofs.state.Laws.{slotIndex-room}
 
 pub allows : (fits : Bool) → readVerdict fits ≡ Allowed → fits ≡ true
 allows false h = absurd (refused-is-not-allowed _ h)
@@ -36,10 +36,10 @@ allows true h = refl
 -- ---- what it tells that a rule applies
 
 -- two pages of a ring
-abbrev Pages : Ring → PageNo → PageNo → Type 0
+abbrev Pages : State → PageNo → PageNo → Type 0
 Pages r p h = (p .0 ≤ r .size .pages) × (h .0 ≤ r .size .pages)
 
-abbrev pub Planned : Ring → Fetch → Type 0
+abbrev pub Planned : State → Fetch → Type 0
 Planned r Event = (r .reader .phase ≡ phase.Idle) × (r .places .position < readLimit (r .places) (r .used))
 Planned r Empty = Unit {0}
 Planned r Busy = Unit {0}
@@ -48,7 +48,7 @@ Planned r (Prepare p h) = Pages r p h
 Planned r (Swap p h) = Pages r p h
 Planned r Miss = Unit {0}
 
-module _ (r : Ring) (s : InShape r) where
+module _ (r : State) (s : InShape r) where
   pub limit-fits : readLimit (r .places) (r .used) ≤ r .size .slots
   limit-fits =
       let used = s .used-at (r .places .reader .0) (s .reader) in

@@ -8,32 +8,33 @@ use Prim.Native.Nat.{ℕ, suc, _+_, _*_, _≤_}
 use native.Mathlib.Omega.{arith}
 use lib.ListN.{length, drop, length-append, length-drop}
 use lib.Seq.{append-snoc, sets, sets-eq, take-at, drop-append-add, drop-drop}
-use Rattle.ring.specs.Codes.{numbersOf}
-use Rattle.ring.specs.Shape.{inShape}
-use Rattle.ring.specs.Act.{act}
-use Rattle.ring.specs.Actions.{Decoded, stopped, codedAt, decoded, decodedFrom}
-use Rattle.ring.specs.Change.{changeOf, changed}
-use Rattle.ring.specs.Replay.{ringAfter, answersOf, answerNumbers, laid, over, laidAt, replay, ran, ranRoom, Reached}
-use Rattle.ring.specs.declared.codes.Numbers.{Numbers}
-use Rattle.ring.specs.declared.state.Action.{Action}
-use Rattle.ring.specs.declared.state.Answer.{Answer}
-use Rattle.ring.specs.declared.state.Answer.the-variants.{Accepted}
-use Rattle.ring.specs.declared.state.Ring.{Ring}
-use Rattle.ring.specs.declared.actions.Coded.the-variants.{Whole}
+use Rattle.rules.specs.Codes.{numbersOf}
+use Rattle.rules.specs.Shape.{inShape}
+use Rattle.rules.specs.Act.{act}
+use Rattle.rules.specs.Actions.{Decoded, stopped, codedAt, decoded, decodedFrom}
+use Rattle.rules.specs.Change.{changeOf, changed}
+use Rattle.rules.specs.Replay.{ringAfter, answersOf, answerNumbers, laid, over, laidAt, ranRoom, Reached}
+use Rattle.ring.specs.Replay.{replay, ran}
+use Rattle.rules.specs.declared.codes.Numbers.{Numbers}
+use Rattle.rules.specs.declared.state.Action.{Action}
+use Rattle.rules.specs.declared.state.Answer.{Answer}
+use Rattle.rules.specs.declared.state.Answer.the-variants.{Accepted}
+use Rattle.rules.specs.declared.state.State.{State}
+use Rattle.rules.specs.declared.actions.Coded.the-variants.{Whole}
 use Rattle.ring.proofs.actions.Laws.{whole-moves, decoded-whole}
 use Rattle.ring.proofs.change.Laws.{change-acts}
-use Rattle.ring.proofs.runs.Reached.{reached-shape}
+use Rattle.rules.proofs.runs.Reached.{reached-shape}
 
 -- ---- a list of actions, and one more
 
 abbrev one : Action → List Action
 one a = a ∷ []
 
-after-more : (r : Ring) (done : List Action) (a : Action) → ringAfter r (done ++ one a) ≡ act (ringAfter r done) a .ring
+after-more : (r : State) (done : List Action) (a : Action) → ringAfter r (done ++ one a) ≡ act (ringAfter r done) a .ring
 after-more r [] a = refl
 after-more r (b ∷ done) a = after-more (act r b .ring) done a
 
-answers-more : (r : Ring) (done : List Action) (a : Action) → answersOf r (done ++ one a) ≡ answersOf r done ++ (act (ringAfter r done) a .answer ∷ [])
+answers-more : (r : State) (done : List Action) (a : Action) → answersOf r (done ++ one a) ≡ answersOf r done ++ (act (ringAfter r done) a .answer ∷ [])
 answers-more r [] a = refl
 answers-more r (b ∷ done) a = ap (λ (l : List Answer). act r b .answer ∷ l) (answers-more (act r b .ring) done a)
 
@@ -46,7 +47,7 @@ laid-more [] a = refl
 laid-more (b ∷ answers) a =
     ap (λ (l : List ℕ). numbersOf b .code ∷ numbersOf b .first ∷ numbersOf b .second ∷ l) (laid-more answers a)
 
-laid-length : (r : Ring) (done : List Action) → length (laid (answersOf r done)) ≡ answerNumbers * length done
+laid-length : (r : State) (done : List Action) → length (laid (answersOf r done)) ≡ answerNumbers * length done
 laid-length r [] = refl
 laid-length r (a ∷ done) =
     let l = laid-length (act r a .ring) done in
@@ -87,7 +88,7 @@ abbrev beforeAll : List Action → Decoded → Decoded
 beforeAll done d = ends (done ++ d .actions) (d .stop)
 
 -- at place `at`, with `made` actions made: the ring r0 has become r, the room room0 has become room, and what is left of the bytes is what is left to do
-pub record Progress (r0 : Ring) (bytes room0 : List ℕ) (r : Ring) (room : List ℕ) (at made : ℕ) : Type 0 where
+pub record Progress (r0 : State) (bytes room0 : List ℕ) (r : State) (room : List ℕ) (at made : ℕ) : Type 0 where
   pub done : List Action
   pub ring : r ≡ ringAfter r0 done
   pub answers : room ≡ over (laid (answersOf r0 done)) room0
@@ -97,11 +98,11 @@ pub record Progress (r0 : Ring) (bytes room0 : List ℕ) (r : Ring) (room : List
   pub within : at ≤ length bytes
   pub fewer : made ≤ at
 
-pub start : (r : Ring) (bytes room : List ℕ) → Progress r bytes room r room 0 0
+pub start : (r : State) (bytes room : List ℕ) → Progress r bytes room r room 0 0
 start r bytes room =
     record { done = []; ring = refl; answers = refl; count = refl; rest = refl; within = omega arith; fewer = omega arith }
 
-module _ {r0 : Ring} {bytes room0 : List ℕ} {r : Ring} {room : List ℕ} {at made : ℕ} (p : Progress r0 bytes room0 r room at made) where
+module _ {r0 : State} {bytes room0 : List ℕ} {r : State} {room : List ℕ} {at made : ℕ} (p : Progress r0 bytes room0 r room at made) where
   pub shaped : Reached r0 → inShape r ≡ true
   shaped h = rw (p .ring) (reached-shape r0 h (p .done))
 
@@ -117,7 +118,7 @@ module _ {r0 : Ring} {bytes room0 : List ℕ} {r : Ring} {room : List ℕ} {at m
       ap length (p .answers) ∙ over-length (laid (answersOf r0 (p .done))) room0 (omega arith)
 
   pub turn :
-      {a : Action} {to : ℕ} {r' : Ring} {room' : List ℕ} →
+      {a : Action} {to : ℕ} {r' : State} {room' : List ℕ} →
       Reached r0 →
       answerNumbers * length bytes ≤ length room0 →
       codedAt bytes at ≡ Whole a to →
@@ -130,12 +131,12 @@ module _ {r0 : Ring} {bytes room0 : List ℕ} {r : Ring} {room : List ℕ} {at m
       let so-far = p .done in
       let front = laid (answersOf r0 so-far) in
       let here = act (ringAfter r0 so-far) a .answer in
-      let number : changeOf r a .answer ≡ numbersOf here = sym (agrees .answer) ∙ ap (λ (q : Ring). numbersOf (act q a .answer)) (p .ring) in
+      let number : changeOf r a .answer ≡ numbersOf here = sym (agrees .answer) ∙ ap (λ (q : State). numbersOf (act q a .answer)) (p .ring) in
       let long = front-length in
       let few = p .fewer in
       record {
         done = so-far ++ one a;
-        ring = changes ∙ sym (agrees .ring) ∙ ap (λ (q : Ring). act q a .ring) (p .ring) ∙ sym (after-more r0 so-far a);
+        ring = changes ∙ sym (agrees .ring) ∙ ap (λ (q : State). act q a .ring) (p .ring) ∙ sym (after-more r0 so-far a);
         answers =
             lays
             ∙ ap (λ (l : List ℕ). laidAt l (answerNumbers * made) (changeOf r a .answer)) (p .answers)
@@ -158,6 +159,6 @@ module _ {r0 : Ring} {bytes room0 : List ℕ} {r : Ring} {room : List ℕ} {at m
       let whole : decoded bytes ≡ ends (p .done) at =
       p .rest ∙ ap (beforeAll (p .done)) e ∙ ap (λ (l : List Action). ends l at) (append-nil (p .done)) in
       subst (λ (d : Decoded). (replay r Accepted made at ≡ ran r0 d) × (room ≡ ranRoom r0 d room0)) (sym whole) (
-        ap (λ (q : Ring). replay q Accepted made at) (p .ring) ∙ ap (λ (k : ℕ). replay (ringAfter r0 (p .done)) Accepted k at) (p .count),
+        ap (λ (q : State). replay q Accepted made at) (p .ring) ∙ ap (λ (k : ℕ). replay (ringAfter r0 (p .done)) Accepted k at) (p .count),
         p .answers,
       )

@@ -12,42 +12,42 @@ use borrow.Author.Tests.{ltb-true, ltb-false, lt-ltb}
 use lib.Dec.{ltb}
 use lib.ListN.{getD, set}
 use lib.Seq.{append-snoc}
-use Rattle.ring.specs.Limits.{mostPages, slotRoom, normal, header, mostInRow}
-use Rattle.ring.specs.Lists.{tabulate}
-use Rattle.ring.specs.State.{reading, slotIndex, wordAt, placesReader, placesPosition, countsHanded, withReader, withPlaces, withWords, withUsed, withPosition, withHanded}
-use Rattle.ring.specs.Words.{pageIn, wordOf}
-use Rattle.ring.specs.Shape.{placesFit, countsFit, readerFits, wordsFit, usedFit, inShape}
-use Rattle.ring.specs.Read.{readLimit, planRead, fetched}
-use Rattle.ring.specs.Pieces.{readAnswer, readPlaces, readPhase, readStores, wordsStored, usedStored, StoresFit}
-use Rattle.ring.specs.Drain.{eventNumber, Drain, noMore, before, afterRead, row, drained, eventAt, eventsFrom}
-use Rattle.ring.specs.Turn.{smaller, eventCount, placesBefore, leftAfter, turn, turnOf, turned, TurnFits}
-use Rattle.ring.specs.declared.state.PageNo.{PageNo}
-use Rattle.ring.specs.declared.state.Places.{Places}
-use Rattle.ring.specs.declared.state.Reader.{Reader}
-use Rattle.ring.specs.declared.state.Answer.{Answer}
-use Rattle.ring.specs.declared.state.Answer.the-variants as answer
-use Rattle.ring.specs.declared.state.ReaderPhase.the-variants as phase
-use Rattle.ring.specs.declared.state.Ring.{Ring}
-use Rattle.ring.specs.declared.state.Last.{Last}
-use Rattle.ring.specs.declared.state.Last.the-variants.{Given}
-use Rattle.ring.specs.declared.moves.Fetch.{Fetch}
-use Rattle.ring.specs.declared.moves.Fetch.the-variants.{Event, Empty, Busy, Find, Prepare, Swap, Miss}
-use Rattle.ring.specs.declared.moves.Turn.{Turn}
-use Rattle.ring.proofs.Lists.{by-cond}
-use Rattle.ring.proofs.shape.Laws.{InShape, in-shape, pages-true, places-true, counts-true}
-use Rattle.ring.proofs.state.Laws.{slotIndex-room}
+use Rattle.rules.specs.Limits.{mostPages, slotRoom, normal, header, mostInRow}
+use Rattle.rules.specs.Lists.{tabulate}
+use Rattle.rules.specs.State.{reading, slotIndex, wordAt, placesReader, placesPosition, countsHanded, withReader, withPlaces, withWords, withUsed, withPosition, withHanded}
+use Rattle.rules.specs.Words.{pageIn, wordOf}
+use Rattle.rules.specs.Shape.{placesFit, countsFit, readerFits, wordsFit, usedFit, inShape}
+use Rattle.rules.specs.Read.{readLimit, planRead, fetched}
+use Rattle.rules.specs.Pieces.{readAnswer, readPlaces, readPhase, readStores, wordsStored, usedStored, StoresFit}
+use Rattle.rules.specs.Drain.{eventNumber, Drain, noMore, before, afterRead, row, drained, eventAt, eventsFrom}
+use Rattle.rules.specs.Turn.{smaller, eventCount, placesBefore, leftAfter, turn, turnOf, turned, TurnFits}
+use Rattle.rules.specs.declared.state.PageNo.{PageNo}
+use Rattle.rules.specs.declared.state.Places.{Places}
+use Rattle.rules.specs.declared.state.Reader.{Reader}
+use Rattle.rules.specs.declared.state.Answer.{Answer}
+use Rattle.rules.specs.declared.state.Answer.the-variants as answer
+use Rattle.rules.specs.declared.state.ReaderPhase.the-variants as phase
+use Rattle.rules.specs.declared.state.State.{State}
+use Rattle.rules.specs.declared.state.Last.{Last}
+use Rattle.rules.specs.declared.state.Last.the-variants.{Given}
+use Rattle.rules.specs.declared.moves.Fetch.{Fetch}
+use Rattle.rules.specs.declared.moves.Fetch.the-variants.{Event, Empty, Busy, Find, Prepare, Swap, Miss}
+use Rattle.rules.specs.declared.moves.Turn.{Turn}
+use Rattle.rules.proofs.Lists.{by-cond}
+use Rattle.rules.proofs.shape.Laws.{InShape, in-shape, pages-true, places-true, counts-true}
+use Rattle.rules.proofs.state.Laws.{slotIndex-room}
 use Rattle.ring.proofs.pieces.Laws.{read-stores-fit}
 use Rattle.ring.proofs.read.Laws.{Planned, limit-fits, next-fits, planned, plan-fits, event-here}
-use Rattle.ring.proofs.read.Kept.{Parts, parts, reshaped, word-fits, set-word, no-used}
+use Rattle.rules.proofs.read.Kept.{Parts, parts, reshaped, word-fits, set-word, no-used}
 
 -- ---- what is left of a drain
 
 -- with room for so many elements, and so many Reads before the next Event
-abbrev pub goOn : ℕ → ℕ → Ring → Last → Drain
+abbrev pub goOn : ℕ → ℕ → State → Last → Drain
 goOn zero left r last = noMore r last
 goOn (suc room) left r last = row (drained mostInRow room) left r last
 
-pub go-on : (room : ℕ) (r : Ring) (last : Last) → drained mostInRow room r last ≡ goOn room mostInRow r last
+pub go-on : (room : ℕ) (r : State) (last : Last) → drained mostInRow room r last ≡ goOn room mostInRow r last
 go-on zero r last = refl
 go-on (suc room) r last = refl
 
@@ -59,7 +59,7 @@ beforeAll-more : (es : List ℕ) (e : ℕ) (d : Drain) → beforeAll es (before 
 beforeAll-more es e d = ap (λ (l : List ℕ). record { ring = d .ring; events = l; last = d .last }) (sym (append-snoc es e (d .events)))
 
 -- one Read of a ring in shape
-module _ (q : Ring) (n l : ℕ) (last : Last) where
+module _ (q : State) (n l : ℕ) (last : Last) where
   step :
       {f : Fetch} →
       inShape q ≡ true →
@@ -69,7 +69,7 @@ module _ (q : Ring) (n l : ℕ) (last : Last) where
 
 -- ---- the pieces that fit
 
-module _ (r : Ring) (s : InShape r) where
+module _ (r : State) (s : InShape r) where
   pub handed-fits : (x : ℕ) → x + r .counts .overwritten ≤ r .counts .committed → countsFit (countsHanded x (r .counts)) ≡ true
   handed-fits x le = counts-true (countsHanded x (r .counts)) (s .begun) le (s .committed-taken) (s .taken-dropped)
 
@@ -83,10 +83,10 @@ module _ (r : Ring) (s : InShape r) where
 -- ---- Events that stand one after the other
 
 -- the ring once so many readings are handed out
-abbrev out : ℕ → Ring → Ring
+abbrev out : ℕ → State → State
 out j r = withPosition (r .places .position + j) (withHanded (r .counts .handed + j) r)
 
-module _ (r : Ring) where
+module _ (r : State) where
   -- the slot that is read next
   abbrev from : ℕ
   from = slotIndex (r .size) (r .places .reader) (r .places .position)
@@ -140,7 +140,7 @@ module _ (r : Ring) where
     one-more j n l last shape lt =
         step (out j r) n l last shape (out-plan j lt)
         ∙ ap (λ (k : ℕ). before k (drained mostInRow n (out 1 (out j r)) (Given (eventAnswer j)))) (event-told j)
-        ∙ ap (λ (q : Ring). before (event j) (drained mostInRow n q (Given (eventAnswer j)))) (out-more j)
+        ∙ ap (λ (q : State). before (event j) (drained mostInRow n q (Given (eventAnswer j)))) (out-more j)
         ∙ ap (before (event j)) (go-on n (out (suc j) r) (Given (eventAnswer j)))
 
     -- j + 1 Events
@@ -154,7 +154,7 @@ module _ (r : Ring) where
         let most = limit-fits r (in-shape r whole) in
         let n : room ≡ suc (room - 1) = omega arith in
         ap (λ (k : ℕ). goOn k (suc l) r last) n
-        ∙ ap (λ (q : Ring). goOn (suc (room - 1)) (suc l) q last) (sym out-none)
+        ∙ ap (λ (q : State). goOn (suc (room - 1)) (suc l) q last) (sym out-none)
         ∙ one-more 0 (room - 1) l last (out-shape 0 (omega arith) agree) lt
     run (suc j) room l last lt some agree =
         let most = limit-fits r (in-shape r whole) in
@@ -173,7 +173,7 @@ smaller-is a b ha hb =
 
 -- ---- what a turn does
 
-pub record Turned (r : Ring) (room left : ℕ) (last : Last) (t : Turn) : Type 0 where
+pub record Turned (r : State) (room left : ℕ) (last : Last) (t : Turn) : Type 0 where
   -- all of the shape but the counts, and these at most one off
   pub shape : inShape (withHanded 0 (turned t r)) ≡ true
   pub agree : t .handed + r .counts .overwritten ≤ r .counts .committed + 1
@@ -187,7 +187,7 @@ pub record Turned (r : Ring) (room left : ℕ) (last : Last) (t : Turn) : Type 0
   -- it leaves less to do
   pub less : (room - t .count) * suc mostInRow + t .left < room * suc mostInRow + left
 
-module _ (r : Ring) (whole : inShape r ≡ true) (room left : ℕ) (last : Last) (some : 0 < room) (more : 0 < left) where
+module _ (r : State) (whole : inShape r ≡ true) (room left : ℕ) (last : Last) (some : 0 < room) (more : 0 < left) where
   abbrev shaped : InShape r
   shaped = in-shape r whole
 
@@ -196,7 +196,7 @@ module _ (r : Ring) (whole : inShape r ≡ true) (room left : ℕ) (last : Last)
   with f count = turn f count left (r .size) (r .places) (r .counts) (r .reader) (r .words) (r .numbers) (r .values)
 
   -- the ring after the last Read, from this position and with so many handed out
-  abbrev leaves : Fetch → ℕ → ℕ → Ring
+  abbrev leaves : Fetch → ℕ → ℕ → State
   leaves f position handed =
       let stores = readStores f (r .places .reader) (r .words) in
       withReader (readPhase f (r .reader))
@@ -232,7 +232,7 @@ module _ (r : Ring) (whole : inShape r ≡ true) (room left : ℕ) (last : Last)
             ∙ step r (room - 1) (left - 1) last whole plan
             ∙ kind
             ∙ ap (λ (k : ℕ). goOn k (leftAfter f left) (fetched f r .ring) (Given (fetched f r .answer))) m
-            ∙ ap (λ (q : Ring). goOn (room - 0) (leftAfter f left) q (Given (fetched f r .answer))) same
+            ∙ ap (λ (q : State). goOn (room - 0) (leftAfter f left) q (Given (fetched f r .answer))) same
             ∙ ap (λ (a : Answer). goOn (room - 0) (leftAfter f left) (turned (with f 0) r) (Given a)) (sym answer);
         count = omega arith;
         slots = omega (arith, s);

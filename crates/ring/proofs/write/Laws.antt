@@ -6,23 +6,23 @@ use Prim.Native.Nat.{ℕ, _-_, _≤_}
 use native.Mathlib.Omega.{arith}
 use borrow.Author.Tests.{eqb-false, ltb-true}
 use lib.Dec.{eqb, ltb}
-use Rattle.ring.specs.Limits.{mostPages, stop, header, update}
-use Rattle.ring.specs.State.{wordAt, usedAt, top}
-use Rattle.ring.specs.Refusals.{writeVerdict}
-use Rattle.ring.specs.Words.{pageIn, flagIn, samePage, readerOnCommit, links, findHeader}
-use Rattle.ring.specs.Shape.{pagesFit, writerFits}
-use Rattle.ring.specs.Write.{planFull, promoteBy, planPhase, planWrite}
-use Rattle.ring.specs.Pieces.{MoveFits}
-use Rattle.ring.specs.declared.state.PageNo.{PageNo}
-use Rattle.ring.specs.declared.state.WriterPhase.{WriterPhase}
-use Rattle.ring.specs.declared.state.WriterPhase.the-variants as phase
-use Rattle.ring.specs.declared.state.Ring.{Ring}
-use Rattle.ring.specs.declared.moves.Search.{Search}
-use Rattle.ring.specs.declared.moves.Search.the-variants.{At, Nowhere}
-use Rattle.ring.specs.declared.moves.Verdict.the-variants.{Allowed}
-use Rattle.ring.proofs.Lists.{by-bool, by-cond}
+use Rattle.rules.specs.Limits.{mostPages, stop, header, update}
+use Rattle.rules.specs.State.{wordAt, usedAt, top}
+use Rattle.rules.specs.Refusals.{writeVerdict}
+use Rattle.rules.specs.Words.{pageIn, flagIn, samePage, readerOnCommit, links, findHeader}
+use Rattle.rules.specs.Shape.{pagesFit, writerFits}
+use Rattle.rules.specs.Write.{planFull, promoteBy, planPhase, planWrite}
+use Rattle.rules.specs.Pieces.{MoveFits}
+use Rattle.rules.specs.declared.state.PageNo.{PageNo}
+use Rattle.rules.specs.declared.state.WriterPhase.{WriterPhase}
+use Rattle.rules.specs.declared.state.WriterPhase.the-variants as phase
+use Rattle.rules.specs.declared.state.State.{State}
+use Rattle.rules.specs.declared.moves.Search.{Search}
+use Rattle.rules.specs.declared.moves.Search.the-variants.{At, Nowhere}
+use Rattle.rules.specs.declared.moves.Verdict.the-variants.{Allowed}
+use Rattle.rules.proofs.Lists.{by-bool, by-cond}
 use Rattle.ring.proofs.moves.Laws.{refused-is-not-allowed}
-use Rattle.ring.proofs.shape.Laws.{InShape, pages-fit, held-fits}
+use Rattle.rules.proofs.shape.Laws.{InShape, pages-fit, held-fits}
 
 pub record Allows (fits : Bool) (depth : ℕ) : Type 0 where
   pub shape : fits ≡ true
@@ -36,7 +36,7 @@ allows true depth h =
     (λ d. record { shape = refl; somebody = eqb-false depth 0 d })
 
 -- a full tail page leads to a drop or to another phase, which name nothing to store to
-full-fits : (r : Ring) (n : PageNo) (flag : ℕ) → MoveFits (planFull (r .size) (r .places) n flag)
+full-fits : (r : State) (n : PageNo) (flag : ℕ) → MoveFits (planFull (r .size) (r .places) n flag)
 full-fits r n flag =
     by-cond MoveFits (samePage (r .places .tail) (r .places .reader)) (λ e. tt) (λ e.
     by-cond MoveFits (samePage n (r .places .commit)) (λ e. tt) (λ e.
@@ -49,7 +49,7 @@ promote-fits : (found : Search) (n : PageNo) (next : WriterPhase) → n .0 ≤ m
 promote-fits (At p h) n next le = tt
 promote-fits Nowhere n next le = le
 
-module _ (r : Ring) (s : InShape r) where
+module _ (r : State) (s : InShape r) where
   pages-room : (t n : PageNo) → pagesFit t n (r .size .pages) ≡ true → (t .0 ≤ mostPages) × (n .0 ≤ mostPages)
   pages-room t n h =
       let f = pages-fit t n (r .size .pages) h in

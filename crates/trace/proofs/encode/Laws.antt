@@ -9,10 +9,10 @@ use borrow.Author.Tests.{leb-true, ltb-false, not-false}
 use lib.Dec.{ltb}
 use lib.ListN.{length, set}
 use lib.Seq.{sets-eq}
-use Rattle.ring.specs.Limits.{mostPages, mostSlots, stop}
-use Rattle.ring.specs.State.{sizeOf}
-use Rattle.ring.specs.Shape.{sizeTests, sizeFits}
-use Rattle.ring.proofs.Lists.{by-cond, each}
+use Rattle.rules.specs.Limits.{mostPages, mostSlots, stop}
+use Rattle.rules.specs.State.{sizeOf}
+use Rattle.rules.specs.Shape.{sizeTests, sizeFits}
+use Rattle.rules.proofs.Lists.{by-cond, each}
 use Rattle.trace.specs.Header.{mostLength, firstAction}
 use Rattle.trace.specs.Encode.{put, placeFor, headerPlace}
 use Rattle.trace.specs.declared.parts.Put.{Put}

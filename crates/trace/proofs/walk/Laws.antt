@@ -10,19 +10,20 @@ use borrow.Author.Tests.{lt-ltb, le-ltb, ltb-false, eq-eqb, ne-eqb}
 use lib.Dec.{eqb, ltb}
 use lib.ListN.{length, take, drop, length-drop}
 use lib.Seq.{take-all}
-use Rattle.ring.specs.Lists.{first}
-use Rattle.ring.specs.State.{sizeOf}
-use Rattle.ring.specs.Shape.{sizeFits}
-use Rattle.ring.specs.Actions.{Decoded, byteAt, decoded, Decodes}
-use Rattle.ring.specs.Replay.{answerNumbers, refusedReplay, ran, ranRoom, roomFits, replayRule, roomRule}
-use Rattle.ring.specs.declared.state.Refusal.{Refusal}
-use Rattle.ring.specs.declared.state.Refusal.the-variants as refusal
-use Rattle.ring.specs.declared.state.Answer.the-variants as answer
+use Rattle.rules.specs.Lists.{first}
+use Rattle.rules.specs.State.{sizeOf}
+use Rattle.rules.specs.Shape.{sizeFits}
+use Rattle.rules.specs.Actions.{Decoded, byteAt, decoded, Decodes}
+use Rattle.rules.specs.Replay.{answerNumbers, ranRoom, roomFits, roomRule}
+use Rattle.ring.specs.Replay.{refusedReplay, ran, replayRule}
+use Rattle.rules.specs.declared.state.Refusal.{Refusal}
+use Rattle.rules.specs.declared.state.Refusal.the-variants as refusal
+use Rattle.rules.specs.declared.state.Answer.the-variants as answer
 use Rattle.ring.specs.declared.state.Replay.{Replay}
-use Rattle.ring.specs.declared.state.Ring.{Ring}
-use Rattle.ring.proofs.Lists.{by-cond, by-eq}
+use Rattle.rules.specs.declared.state.State.{State}
+use Rattle.rules.proofs.Lists.{by-cond, by-eq}
 use Rattle.ring.proofs.actions.Laws.{stop-within, decodes}
-use Rattle.ring.proofs.actions.Shift.{shifted, decoded-drop}
+use Rattle.rules.proofs.actions.Shift.{shifted, decoded-drop}
 use Rattle.trace.specs.Header.{modeOf, setUp, pagesAt, slotsAt, modeAt, setUpIn, headerRows, headerOf}
 use Rattle.trace.specs.Replays.{walkPlace, walkBytes, walkActions, wholeTo, walked, frontRing, replayedBy, replayedFrom, NineRight}
 use Rattle.trace.specs.declared.parts.Header.{Header}
@@ -118,7 +119,7 @@ module _ (bytes : List ℕ) (at : ℕ) where
         whole = λ h. let z : _≡_ {A = ℕ} 0 1 = cc in absurd (omega arith);
       }
 
-  walked-right : (r : Ring) → NineRight bytes (walked (length bytes) r d)
+  walked-right : (r : State) → NineRight bytes (walked (length bytes) r d)
   walked-right r =
       record {
         nine = λ h.

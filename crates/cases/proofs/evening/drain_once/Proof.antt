@@ -50,12 +50,12 @@ use denote.Triple.Table.{entered, cited}
 use denote.Triple.Walked.{Stays, stay-dropped, stay-slice, walkOf, goes-dropped, goes-slice, Walks, ends-at, walked, walk-meets}
 use denote.Exit.{yes}
 use Rattle.ring.specs.declared.state.Ring.{Ring}
-use Rattle.ring.specs.declared.state.Last.{Last}
+use Rattle.rules.specs.declared.state.Last.{Last}
 use Rattle.ring.specs.declared.drained.Drained.{Drained}
 use Rattle.ring.proofs.state.Ring as R
 use Rattle.ring.proofs.state.Ring.Laws as R′
-use Rattle.ring.proofs.state.Last as L
-use Rattle.ring.proofs.state.Last.Laws as L′
+use Rattle.rules.proofs.state.Last as L
+use Rattle.rules.proofs.state.Last.Laws as L′
 use Rattle.ring.proofs.drained.Drained as T
 use Rattle.ring.proofs.drained.Drained.Laws as T′
 use Rattle.ring.proofs.drained.Again.{LentAgain, lends-again}

@@ -3,13 +3,13 @@ use mathlib.Core.Path.{_≡_, refl}
 use mathlib.Core.List.{[], _∷_}
 use native.Mathlib.Omega.{arith}
 use borrow.Author.Needs.{needs}
-use Rattle.ring.specs.Pieces.{numbersStored}
-use Rattle.ring.specs.declared.moves.Stores.{Stores}
+use Rattle.rules.specs.Pieces.{numbersStored}
+use Rattle.rules.specs.declared.moves.Stores.{Stores}
 use Rattle.ring.proofs.moves.Laws.{stores-of-numbers}
 use Rattle.ring.proofs.change.store_numbers.Statement.{statement}
 use Rattle.ring.proofs.change.store_numbers.Tie as tie
 use Prim.Native.Nat.{_≤_, _<_}
-use Rattle.ring.specs.Limits.{mostPages, slotRoom}
+use Rattle.rules.specs.Limits.{mostPages, slotRoom}
 
 within : (c : tie.After-s) → (c .s .given .0 .0 < slotRoom) × (c .s .given .0 .1 .1 .0 .0 ≤ mostPages)
 within c = rw (c .s .given .1) at (c .before .before .pre)

@@ -3,13 +3,13 @@ use mathlib.Core.Path.{_≡_, refl}
 use mathlib.Core.List.{[], _∷_}
 use native.Mathlib.Omega.{arith}
 use borrow.Author.Needs.{needs}
-use Rattle.ring.specs.Pieces.{usedStored}
-use Rattle.ring.specs.declared.moves.Stores.{Stores}
+use Rattle.rules.specs.Pieces.{usedStored}
+use Rattle.rules.specs.declared.moves.Stores.{Stores}
 use Rattle.ring.proofs.moves.Laws.{stores-of-numbers}
 use Rattle.ring.proofs.change.store_used.Statement.{statement}
 use Rattle.ring.proofs.change.store_used.Tie as tie
 use Prim.Native.Nat.{_≤_, _<_}
-use Rattle.ring.specs.Limits.{mostPages, slotRoom}
+use Rattle.rules.specs.Limits.{mostPages, slotRoom}
 
 -- a number, and a page taken
 number-within : (c : tie.After-s) → (c .s .given .0 .0 < slotRoom) × (c .s .given .0 .1 .1 .0 .0 ≤ mostPages)

@@ -3,13 +3,13 @@ use mathlib.Core.Path.{_≡_, refl}
 use mathlib.Core.List.{[], _∷_}
 use native.Mathlib.Omega.{arith}
 use borrow.Author.Needs.{needs}
-use Rattle.ring.specs.Pieces.{valuesStored}
-use Rattle.ring.specs.declared.moves.Stores.{Stores}
+use Rattle.rules.specs.Pieces.{valuesStored}
+use Rattle.rules.specs.declared.moves.Stores.{Stores}
 use Rattle.ring.proofs.moves.Laws.{stores-of-numbers}
 use Rattle.ring.proofs.change.store_values.Statement.{statement}
 use Rattle.ring.proofs.change.store_values.Tie as tie
 use Prim.Native.Nat.{_<_}
-use Rattle.ring.specs.Limits.{slotRoom}
+use Rattle.rules.specs.Limits.{slotRoom}
 
 within : (c : tie.After-s) → c .s .given .0 .0 < slotRoom
 within c = rw (c .s .given .1) at (c .before .before .pre)

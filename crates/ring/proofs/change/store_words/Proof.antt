@@ -3,13 +3,13 @@ use mathlib.Core.Path.{_≡_, refl}
 use mathlib.Core.List.{[], _∷_}
 use native.Mathlib.Omega.{arith}
 use borrow.Author.Needs.{needs}
-use Rattle.ring.specs.Pieces.{wordsStored}
-use Rattle.ring.specs.declared.moves.Stores.{Stores}
+use Rattle.rules.specs.Pieces.{wordsStored}
+use Rattle.rules.specs.declared.moves.Stores.{Stores}
 use Rattle.ring.proofs.moves.Laws.{stores-of-numbers}
 use Rattle.ring.proofs.change.store_words.Statement.{statement}
 use Rattle.ring.proofs.change.store_words.Tie as tie
 use Prim.Native.Nat.{_≤_}
-use Rattle.ring.specs.Limits.{mostPages}
+use Rattle.rules.specs.Limits.{mostPages}
 
 -- a page taken, and a word alone
 take-within : (c : tie.After-s) → (c .s .given .0 .0 .0 ≤ mostPages) × (c .s .given .0 .1 .1 .0 .0 ≤ mostPages)

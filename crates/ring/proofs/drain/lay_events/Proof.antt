@@ -6,9 +6,9 @@ use native.Mathlib.Numerals.{add-one}
 use borrow.Author.Needs.{needs}
 use lib.ListN.{length}
 use lib.Seq.{sets, length-sets}
-use Rattle.ring.specs.Lists.{tabulate}
-use Rattle.ring.specs.Drain.{eventAt, eventsFrom}
-use Rattle.ring.proofs.Lists.{length-tabulate, sets-more}
+use Rattle.rules.specs.Lists.{tabulate}
+use Rattle.rules.specs.Drain.{eventAt, eventsFrom}
+use Rattle.rules.proofs.Lists.{length-tabulate, sets-more}
 use Rattle.ring.proofs.drain.lay_events.Statement.{statement}
 use Rattle.ring.proofs.drain.lay_events.Tie as tie
 

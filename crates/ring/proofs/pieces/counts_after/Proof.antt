@@ -5,8 +5,8 @@ use mathlib.Core.List.{[], _∷_}
 use native.Mathlib.Omega.{arith}
 use borrow.Author.Needs.{needs}
 use denote.Ref.{now}
-use Rattle.ring.specs.Pieces.{countsAfter}
-use Rattle.ring.specs.declared.moves.Move.{Move}
+use Rattle.rules.specs.Pieces.{countsAfter}
+use Rattle.rules.specs.declared.moves.Move.{Move}
 use Rattle.ring.proofs.moves.Laws.{of-numbers}
 use Rattle.ring.proofs.pieces.counts_after.Statement.{statement}
 use Rattle.ring.proofs.pieces.counts_after.Tie as tie

@@ -2,7 +2,7 @@
 use Prim.Native.Nat.{_<_}
 use native.Mathlib.Omega.{arith}
 use borrow.Author.Needs.{needs}
-use Rattle.ring.specs.Limits.{slotRoom}
+use Rattle.rules.specs.Limits.{slotRoom}
 use Rattle.ring.proofs.pieces.read_answer.Statement.{statement}
 use Rattle.ring.proofs.pieces.read_answer.Tie as tie
 

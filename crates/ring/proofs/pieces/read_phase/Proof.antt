@@ -2,10 +2,10 @@
 use mathlib.Core.Path.{_≡_, refl}
 use mathlib.Core.List.{[], _∷_}
 use borrow.Author.Needs.{needs}
-use Rattle.ring.specs.Pieces.{readPhase}
-use Rattle.ring.specs.declared.state.Reader.{Reader}
-use Rattle.ring.specs.declared.state.ReaderPhase.the-variants.{Idle}
-use Rattle.ring.specs.declared.moves.Fetch.{Fetch}
+use Rattle.rules.specs.Pieces.{readPhase}
+use Rattle.rules.specs.declared.state.Reader.{Reader}
+use Rattle.rules.specs.declared.state.ReaderPhase.the-variants.{Idle}
+use Rattle.rules.specs.declared.moves.Fetch.{Fetch}
 use Rattle.ring.proofs.moves.Laws.{fetch-of-numbers}
 use Rattle.ring.proofs.pieces.read_phase.Statement.{statement}
 use Rattle.ring.proofs.pieces.read_phase.Tie as tie

@@ -3,8 +3,8 @@ use mathlib.Core.Path.{_≡_, sym, ap}
 use borrow.Author.Tests.{lt-ltb, le-ltb, eq-eqb, ne-eqb}
 use borrow.Author.Needs.{needs}
 use denote.Ref.{now}
-use Rattle.ring.specs.Words.{findHeader}
-use Rattle.ring.specs.Read.{findBy, planIdle}
+use Rattle.rules.specs.Words.{findHeader}
+use Rattle.rules.specs.Read.{findBy, planIdle}
 use Rattle.ring.proofs.read.plan_idle.Statement.{statement}
 use Rattle.ring.proofs.read.plan_idle.Tie as tie
 

@@ -2,7 +2,7 @@
 -- Assumes nothing.
 use native.Mathlib.Omega.{arith}
 use borrow.Author.Needs.{needs}
-use Rattle.ring.proofs.shape.Laws.{pages-fit}
+use Rattle.rules.proofs.shape.Laws.{pages-fit}
 use Rattle.ring.proofs.read.plan_reader.Statement.{statement}
 use Rattle.ring.proofs.read.plan_reader.Tie as tie
 

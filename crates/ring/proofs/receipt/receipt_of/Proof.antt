@@ -2,7 +2,7 @@
 use Prim.Native.Nat.{_+_, _≤_}
 use native.Mathlib.Omega.{arith}
 use borrow.Author.Needs.{needs}
-use Rattle.ring.proofs.shape.Laws.{counts-agree}
+use Rattle.rules.proofs.shape.Laws.{counts-agree}
 use Rattle.ring.proofs.receipt.receipt_of.Statement.{statement}
 use Rattle.ring.proofs.receipt.receipt_of.Tie as tie
 

@@ -1,7 +1,7 @@
 -- `setup::fresh_word` is the definition: page and flag are small, so the word fits 32 bits. Assumes nothing.
 use native.Mathlib.Omega.{arith}
 use borrow.Author.Needs.{needs}
-use Rattle.ring.proofs.setup.Laws.{freshNext-most, freshFlag-most}
+use Rattle.rules.proofs.setup.Laws.{freshNext-most, freshFlag-most}
 use Rattle.ring.proofs.setup.fresh_word.Statement.{statement}
 use Rattle.ring.proofs.setup.fresh_word.Tie as tie
 

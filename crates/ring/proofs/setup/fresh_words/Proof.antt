@@ -3,8 +3,8 @@ use mathlib.Core.Path.{refl}
 use Prim.Native.Nat.{_-_, _≤_}
 use native.Mathlib.Omega.{arith}
 use borrow.Author.Needs.{needs}
-use Rattle.ring.specs.Limits.{pageRoom}
-use Rattle.ring.proofs.setup.Laws.{Written, written-more, written-all}
+use Rattle.rules.specs.Limits.{pageRoom}
+use Rattle.rules.proofs.setup.Laws.{Written, written-more, written-all}
 use Rattle.ring.proofs.setup.fresh_words.Statement.{statement}
 use Rattle.ring.proofs.setup.fresh_words.Tie as tie
 

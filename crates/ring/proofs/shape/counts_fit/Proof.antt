@@ -3,8 +3,8 @@ use mathlib.Core.Path.{sym, _∙_}
 use native.Mathlib.Omega.{arith}
 use borrow.Author.Needs.{needs}
 use borrow.Author.Tests.{leb-true}
-use Rattle.ring.specs.Shape.{smallTests}
-use Rattle.ring.proofs.Lists.{Each, each}
+use Rattle.rules.specs.Shape.{smallTests}
+use Rattle.rules.proofs.Lists.{Each, each}
 use Rattle.ring.proofs.shape.counts_fit.Statement.{statement}
 use Rattle.ring.proofs.shape.counts_fit.Tie as tie
 

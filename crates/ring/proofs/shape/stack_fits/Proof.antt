@@ -3,8 +3,8 @@ use Prim.Native.Nat.{_-_, _≤_}
 use native.Mathlib.Omega.{arith}
 use borrow.Author.Needs.{needs}
 use borrow.Author.Tests.{le-leb, lt-leb}
-use Rattle.ring.specs.Shape.{recordFitsAt}
-use Rattle.ring.proofs.Lists.{Tested, tested-none, tested-more, tested-end}
+use Rattle.rules.specs.Shape.{recordFitsAt}
+use Rattle.rules.proofs.Lists.{Tested, tested-none, tested-more, tested-end}
 use Rattle.ring.proofs.shape.stack_fits.Statement.{statement}
 use Rattle.ring.proofs.shape.stack_fits.Tie as tie
 

@@ -3,7 +3,7 @@ use mathlib.Core.Path.{_≡_, ap}
 use Prim.Native.Nat.{ℕ, _+_, _-_}
 use native.Mathlib.Omega.{arith}
 use borrow.Author.Needs.{needs}
-use Rattle.ring.specs.State.{placesPosition}
+use Rattle.rules.specs.State.{placesPosition}
 use Rattle.ring.proofs.turn.places_before.Statement.{statement}
 use Rattle.ring.proofs.turn.places_before.Tie as tie
 

@@ -2,7 +2,7 @@
 use Prim.Native.Nat.{_+_, _≤_}
 use native.Mathlib.Omega.{arith}
 use borrow.Author.Needs.{needs}
-use Rattle.ring.specs.Limits.{mostSlots}
+use Rattle.rules.specs.Limits.{mostSlots}
 use Rattle.ring.proofs.turn.turn_by.Statement.{statement}
 use Rattle.ring.proofs.turn.turn_by.Tie as tie
 

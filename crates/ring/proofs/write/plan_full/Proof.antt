@@ -4,8 +4,8 @@ use mathlib.Core.Path.{_≡_}
 use mathlib.Core.Bool.{false, _&&_}
 use borrow.Author.Tests.{eq-eqb, ne-eqb}
 use lib.Dec.{eqb}
-use Rattle.ring.specs.Limits.{stop, header}
-use Rattle.ring.specs.Words.{samePage, readerOnCommit}
+use Rattle.rules.specs.Limits.{stop, header}
+use Rattle.rules.specs.Words.{samePage, readerOnCommit}
 use Rattle.ring.proofs.write.plan_full.Statement.{statement}
 use Rattle.ring.proofs.write.plan_full.Tie as tie
 

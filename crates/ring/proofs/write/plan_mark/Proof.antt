@@ -3,8 +3,8 @@ use mathlib.Core.Path.{_≡_, sym, _∙_}
 use mathlib.Core.Bool.{false}
 use borrow.Author.Needs.{needs}
 use denote.Ref.{now}
-use Rattle.ring.specs.Limits.{header}
-use Rattle.ring.specs.Words.{links}
+use Rattle.rules.specs.Limits.{header}
+use Rattle.rules.specs.Words.{links}
 use Rattle.ring.proofs.write.plan_mark.Statement.{statement}
 use Rattle.ring.proofs.write.plan_mark.Tie as tie
 

@@ -2,7 +2,7 @@
 -- Assumes nothing.
 use native.Mathlib.Omega.{arith}
 use borrow.Author.Needs.{needs}
-use Rattle.ring.proofs.shape.Laws.{pages-fit}
+use Rattle.rules.proofs.shape.Laws.{pages-fit}
 use Rattle.ring.proofs.write.plan_phase.Statement.{statement}
 use Rattle.ring.proofs.write.plan_phase.Tie as tie
 

@@ -2,8 +2,8 @@
 use mathlib.Core.Path.{_≡_, sym, ap}
 use borrow.Author.Needs.{needs}
 use denote.Ref.{now}
-use Rattle.ring.specs.Write.{afterPromote, promoteBy, planPromote}
-use Rattle.ring.specs.declared.moves.Search.{Search}
+use Rattle.rules.specs.Write.{afterPromote, promoteBy, planPromote}
+use Rattle.rules.specs.declared.moves.Search.{Search}
 use Rattle.ring.proofs.write.plan_promote.Statement.{statement}
 use Rattle.ring.proofs.write.plan_promote.Tie as tie
 

@@ -1,7 +1,7 @@
 -- `tallies::tally` is safe and ends. The measure is what is left of the codes. Assumes nothing.
 use borrow.Author.Needs.{needs}
 use Prim.Native.Nat.{_-_}
-use Rattle.ring.specs.Codes.{kinds}
+use Rattle.rules.specs.Codes.{kinds}
 use Rattle.text.proofs.tallies.tally.Statement.{statement}
 use Rattle.text.proofs.tallies.tally.Tie as tie
 

@@ -2,7 +2,7 @@
 use mathlib.Core.Path.{refl, sym, _∙_}
 use borrow.Author.Needs.{needs}
 use lib.ListN.{length}
-use Rattle.ring.specs.Actions.{coded}
+use Rattle.rules.specs.Actions.{coded}
 use Rattle.trace.proofs.encode.Laws.{placed}
 use Rattle.trace.proofs.encode.put_action.Statement.{statement}
 use Rattle.trace.proofs.encode.put_action.Tie as tie

@@ -3,7 +3,7 @@ use Prim.Native.Nat.{_/_, _%_}
 use native.Mathlib.Omega.{arith}
 use lib.ListN.{length-set}
 use borrow.Author.Needs.{needs}
-use Rattle.ring.specs.Actions.{beginCode}
+use Rattle.rules.specs.Actions.{beginCode}
 use Rattle.trace.proofs.encode.Laws.{five-stores}
 use Rattle.trace.proofs.encode.store_begin.Statement.{statement}
 use Rattle.trace.proofs.encode.store_begin.Tie as tie

@@ -7,10 +7,11 @@ use native.Mathlib.Omega.{arith}
 use borrow.Author.Needs.{needs}
 use mathlib.Core.List.{List}
 use lib.ListN.{length, take, drop}
-use Rattle.ring.specs.Actions.{Decoded, decoded}
-use Rattle.ring.specs.Replay.{ran, ranRoom, roomFits, replayRule, roomRule}
+use Rattle.rules.specs.Actions.{Decoded, decoded}
+use Rattle.rules.specs.Replay.{ranRoom, roomFits, roomRule}
+use Rattle.ring.specs.Replay.{ran, replayRule}
 use Rattle.ring.specs.declared.state.Replay.{Replay}
-use Rattle.ring.proofs.actions.Shift.{shifted}
+use Rattle.rules.proofs.actions.Shift.{shifted}
 use Rattle.trace.specs.Header.{headerOf}
 use Rattle.trace.specs.Replays.{walkPlace, walkBytes, walkActions, walked, toldFrom, frontRing, replayedFrom, roomFrom}
 use Rattle.trace.specs.declared.parts.Header.the-variants.{Ready}

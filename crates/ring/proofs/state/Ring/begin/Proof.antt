@@ -8,10 +8,11 @@ use borrow.Author.Needs.{needs}
 use mir.Syntax.{w32}
 use mir.Val.{Fits}
 use lib.ListN.{getD}
-use Rattle.ring.specs.Shape.{inShape}
-use Rattle.ring.specs.Refusals.{beginVerdict}
-use Rattle.ring.specs.declared.state.Ring.{Ring}
-use Rattle.ring.proofs.shape.Laws.{InShape, in-shape, tested-inShape}
+use Rattle.ring.specs.Held.{stateOf}
+use Rattle.rules.specs.Shape.{inShape}
+use Rattle.rules.specs.Refusals.{beginVerdict}
+use Rattle.rules.specs.declared.state.State.{State}
+use Rattle.rules.proofs.shape.Laws.{InShape, in-shape, tested-inShape}
 use Rattle.ring.proofs.begin.Laws.{Allows, allows}
 use Rattle.ring.proofs.state.Ring.begin.Statement.{statement}
 use Rattle.ring.proofs.state.Ring.begin.Tie as tie
@@ -23,8 +24,8 @@ narrow c i = search needs
 abbrev start : tie.After-begin-verdict → tie.Start
 start c = c .before .before .before .before .before .before .before .before .before .before .before
 
-abbrev self : tie.After-begin-verdict → Ring
-self c = start c .args .t1
+abbrev self : tie.After-begin-verdict → State
+self c = stateOf (start c .args .t1)
 
 -- the code's test is the definition's
 fitting : (c : tie.After-begin-verdict) → c .before .before .before .before .before .counts-fit .result && c .before .layout-fits .result ≡ inShape (self c)

@@ -48,13 +48,14 @@ use denote.Triple.Spec.{Meets, tripleOf}
 use denote.Triple.Table.{entered, cited}
 use denote.Triple.Walked.{says, Stays, stay-dropped, walkOf, goes-dropped, goes-spent-slice, Walks, ends-at, walked, walk-meets}
 use denote.Exit.{yes, no}
-use Rattle.ring.specs.Drain.{Drain, drainRule, drainedInto, laidOut}
+use Rattle.rules.specs.Drain.{Drain, drainRule}
+use Rattle.ring.specs.Held.{stateOf, ringOf, drainedInto, laidOut}
 use Rattle.ring.specs.declared.state.Ring.{Ring}
 use Rattle.ring.specs.declared.state.DrainedInto.{DrainedInto}
 use Rattle.ring.specs.declared.drained.Drained.{Drained}
 use Rattle.ring.proofs.state.Ring as R
 use Rattle.ring.proofs.state.Ring.Laws as R′
-use Rattle.ring.proofs.state.Last.Laws as L′
+use Rattle.rules.proofs.state.Last.Laws as L′
 use Rattle.ring.proofs.state.DrainedInto as F
 use Rattle.ring.proofs.state.DrainedInto.Laws as F′
 use Rattle.ring.proofs.drained.Drained as T
@@ -118,7 +119,7 @@ module _ {M : Type 1} (𝓤 : URA M) (H : Heap 𝓤) (A : Atoms 𝓤) (W : Given
 
   -- what the Reads leave, how many events that is, and what the room holds then
   abbrev found : Drain
-  found = drainRule r (length ys)
+  found = drainRule (stateOf r) (length ys)
 
   abbrev n : ℕ
   n = length (found .events)
@@ -141,14 +142,14 @@ module _ {M : Type 1} (𝓤 : URA M) (H : Heap 𝓤) (A : Atoms 𝓤) (W : Given
 
   -- the result, whose part is p, and its machine value
   abbrev made : RefT (List ℕ) → Drained
-  made p = record { part = p; ring = found .ring; last = found .last }
+  made p = record { part = p; ring = ringOf (found .ring); last = found .last }
 
   abbrev mach : RefT (List ℕ) → Val
   mach p = LL.val (T.the-type α) (T′.the-laws α) (made p)
 
   -- what the fields of `drain_into`'s result own
   abbrev Own : Fml
-  Own = all-own (F.the-type .parts) F′.the-laws (found .ring, (found .last, (n, tt)))
+  Own = all-own (F.the-type .parts) F′.the-laws (ringOf (found .ring), (found .last, (n, tt)))
 
   abbrev Post : Val → SProp 𝓤
   Post = walkOf 𝓤 H A drain.ended stayed (drain.clauses 𝓤 H A mem run) .post (((κ, tt), (q, tt), tt, (r, (x γ ys, tt)), vals), tt)
@@ -199,7 +200,7 @@ module _ {M : Type 1} (𝓤 : URA M) (H : Heap 𝓤) (A : Atoms 𝓤) (W : Given
       frame ! $ nothing ! $ nothing ! $ fjoin ! $ nothing ! $ fjoin ! $ frame ! $
       -- [what the part owns; what the ring, the last answer and the count own]
       move ! (1 ∷ []) $ fsplit ! $ move ! (1 ∷ []) $ fsplit ! $ nothing ! $ move ! (1 ∷ 0 ∷ []) $ fjoin ! $ move ! (2 ∷ 0 ∷ []) $ fjoin ! $ move ! (2 ∷ 0 ∷ []) $ fjoin ! $
-      keep ! (0 ∷ []) $ by ! (own-shut 𝓤 H A W (T.the-type α) (T′.the-laws α) (p, (found .ring, (found .last, tt))))
+      keep ! (0 ∷ []) $ by ! (own-shut 𝓤 H A W (T.the-type α) (T′.the-laws α) (p, (ringOf (found .ring), (found .last, tt))))
 
   module _ (C : Calls 𝓤 H) (Λ : Loops 𝓤 H) (fm : FmC 𝓤 H (W .laws) C) (known-into : Triple 𝓤 (C #drain-into) (Into 𝓤 H A mem run)) (known-front : Triple 𝓤 (C #front) (Front 𝓤 H A mem run)) (ρ σ : Ty)
       (ring-typed : (h : Ring) (v : Val) → Is R.the-row h (v ∷ []) → Holds (hasTy ρ v) × WT v)
@@ -224,7 +225,7 @@ module _ {M : Type 1} (𝓤 : URA M) (H : Heap 𝓤) (A : Atoms 𝓤) (W : Given
         -- [what `drain_into` returned; ν's token; the room's last list; what is kept of the room; …; …; _10; …]
         rewrite ! 0 (λ (h : DrainedInto). ‵ (F.the-row .own h (w ∷ []))) (e .0) refl $ peeks ! F.the-row (Is F.the-row) (shows 𝓤 H A F.the-row) (drainedInto found) (w ∷ []) (λ is.
         land ! (from ! (stop !)) (init ! 20 refl (back-typed (drainedInto found) w is)) $
-        use1 W (given (w ∷ [] ≡ back ∷ []) (‵ Own)) (own-open 𝓤 H A W F.the-type F′.the-laws (found .ring, (found .last, (n, tt))) w) $ learn ! (λ we. rewrite ! 20 (λ (u : Val). ‵ (fat fullShare (DrainedIntoTy ρ σ) l₃ 0 u)) (ap only we) refl $
+        use1 W (given (w ∷ [] ≡ back ∷ []) (‵ Own)) (own-open 𝓤 H A W F.the-type F′.the-laws (ringOf (found .ring), (found .last, (n, tt))) w) $ learn ! (λ we. rewrite ! 20 (λ (u : Val). ‵ (fat fullShare (DrainedIntoTy ρ σ) l₃ 0 u)) (ap only we) refl $
         -- the lifetime is ended, and the room comes back at that list
         move ! (1 ∷ []) $ split ! $ lft-end ! tt $ move ! (0 ∷ 4 ∷ 3 ∷ []) $
         use3 W (later (‵ (MutSlice (named 0) κ u64 .own (x γ left) (s ∷ [])) ⊛ ‵ (flft κ q))) (comes-back u64 κ (ν ∷ []) q γ b o 𝓤 H A W (named 0) (named 0) ys δ left room (e .1)) $ await ! tt $ split ! $

@@ -8,8 +8,9 @@ use borrow.Author.Tests.{not-true, not-false}
 use mir.Syntax.{w32}
 use mir.Val.{Fits}
 use lib.ListN.{getD}
-use Rattle.ring.specs.Shape.{inShape}
-use Rattle.ring.proofs.shape.Laws.{tested-inShape}
+use Rattle.ring.specs.Held.{stateOf}
+use Rattle.rules.specs.Shape.{inShape}
+use Rattle.rules.proofs.shape.Laws.{tested-inShape}
 use Rattle.ring.proofs.state.Ring.drain_into.Statement.{statement}
 use Rattle.ring.proofs.state.Ring.drain_into.Tie as tie
 
@@ -17,13 +18,13 @@ narrow : (c : tie.Start) (i : ℕ) → Fits w32 (getD (c .args .t1 .numbers) i 0
 narrow c i = search needs
 
 -- the code's test is the definition's
-fitting : (c : tie.After-layout-fits) → c .before .before .before .before .counts-fit .result && c .layout-fits .result ≡ inShape (c .before .before .before .before .before .before .before .before .before .before .before .args .t1)
-fitting c = tested-inShape (c .before .before .before .before .before .before .before .before .before .before .before .args .t1) (c .before .before .before .before .counts-fit .ensures) (c .layout-fits .ensures) (narrow (c .before .before .before .before .before .before .before .before .before .before .before))
+fitting : (c : tie.After-layout-fits) → c .before .before .before .before .counts-fit .result && c .layout-fits .result ≡ inShape (stateOf (c .before .before .before .before .before .before .before .before .before .before .before .args .t1))
+fitting c = tested-inShape (stateOf (c .before .before .before .before .before .before .before .before .before .before .before .args .t1)) (c .before .before .before .before .counts-fit .ensures) (c .layout-fits .ensures) (narrow (c .before .before .before .before .before .before .before .before .before .before .before))
 
 returns : tie.Need-returns
 returns c = rw (sym (fitting (c .before)) ∙ not-true _ (c .if1 .taken)) (refl, refl)
 
-shaped : (c : tie.Else1) → inShape (c .before .before .before .before .before .before .before .before .before .before .before .before .args .t1) ≡ true
+shaped : (c : tie.Else1) → inShape (stateOf (c .before .before .before .before .before .before .before .before .before .before .before .before .args .t1)) ≡ true
 shaped c = sym (fitting (c .before)) ∙ not-false _ (c .if1 .left)
 
 returns-2 : tie.Need-returns-2

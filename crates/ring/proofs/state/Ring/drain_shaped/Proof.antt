@@ -9,21 +9,22 @@ use borrow.Author.Needs.{needs}
 use borrow.Author.Tests.{ltb-true, leb-true}
 use lib.Dec.{ltb}
 use lib.ListN.{length}
-use Rattle.ring.specs.Limits.{slotRoom, mostInRow}
-use Rattle.ring.specs.Shape.{inShape}
-use Rattle.ring.specs.Pieces.{StoresFit}
-use Rattle.ring.specs.Turn.{turnOf}
-use Rattle.ring.specs.declared.state.Ring.{Ring}
-use Rattle.ring.specs.declared.moves.Turn.{Turn}
-use Rattle.ring.proofs.Lists.{and-three}
-use Rattle.ring.proofs.shape.Laws.{in-shape}
+use Rattle.ring.specs.Held.{stateOf}
+use Rattle.rules.specs.Limits.{slotRoom, mostInRow}
+use Rattle.rules.specs.Shape.{inShape}
+use Rattle.rules.specs.Pieces.{StoresFit}
+use Rattle.rules.specs.Turn.{turnOf}
+use Rattle.rules.specs.declared.state.State.{State}
+use Rattle.rules.specs.declared.moves.Turn.{Turn}
+use Rattle.rules.proofs.Lists.{and-three}
+use Rattle.rules.proofs.shape.Laws.{in-shape}
 use Rattle.ring.proofs.turn.Laws.{Turned, turn-fits, turn-stores, turn-slots}
 use Rattle.ring.proofs.drain.Laws.{Progress, start, room-length, in-order, turn-does, turn-on, finish}
 use Rattle.ring.proofs.state.Ring.drain_shaped.Statement.{statement}
 use Rattle.ring.proofs.state.Ring.drain_shaped.Tie as tie
 
 abbrev Inv-loop : tie.InvT-loop
-Inv-loop room₀ self₀ most at₀ left₀ last₀ room self at left last = Progress self₀ room₀ self room at left last
+Inv-loop room₀ self₀ most at₀ left₀ last₀ room self at left last = Progress (stateOf self₀) room₀ (stateOf self) room at left last
 
 abbrev μ-loop : tie.MeasureT-loop
 μ-loop room₀ self₀ most at₀ left₀ last₀ room self at left last = (most - at) * suc mostInRow + left
@@ -42,8 +43,8 @@ room-small c = search needs
 abbrev Turns : Type 0
 Turns = tie.Then1 Inv-loop μ-loop
 
-abbrev ring : Turns → Ring
-ring c = c .before .before .before .loop .self
+abbrev ring : Turns → State
+ring c = stateOf (c .before .before .before .loop .self)
 
 abbrev most : Turns → ℕ
 most c = length (c .before .before .before .before .before .args .room .now)

@@ -4,7 +4,8 @@ use borrow.Author.Needs.{needs}
 use mir.Syntax.{w32}
 use mir.Val.{Fits}
 use lib.ListN.{getD}
-use Rattle.ring.proofs.shape.Laws.{tested-inShape}
+use Rattle.ring.specs.Held.{stateOf}
+use Rattle.rules.proofs.shape.Laws.{tested-inShape}
 use Rattle.ring.proofs.state.Ring.in_shape.Statement.{statement}
 use Rattle.ring.proofs.state.Ring.in_shape.Tie as tie
 
@@ -16,7 +17,7 @@ narrow c i = search needs
 
 returns : tie.Need-returns
 returns c =
-    tested-inShape (start c .args .t1) (c .before .before .before .before .counts-fit .ensures) (c .layout-fits .ensures) (narrow (start c))
+    tested-inShape (stateOf (start c .args .t1)) (c .before .before .before .before .counts-fit .ensures) (c .layout-fits .ensures) (narrow (start c))
 
 pub in-shape-spec : {M : Type 1} → statement M
 in-shape-spec = tie.close (tie.spec (λ c κs. search needs) (λ c κs. search needs) returns)

@@ -7,10 +7,11 @@ use borrow.Author.Needs.{needs}
 use mir.Syntax.{w32}
 use mir.Val.{Fits}
 use lib.ListN.{getD}
-use Rattle.ring.specs.Shape.{inShape}
-use Rattle.ring.specs.declared.state.Ring.{Ring}
-use Rattle.ring.proofs.Lists.{and-left}
-use Rattle.ring.proofs.shape.Laws.{tested-inShape}
+use Rattle.ring.specs.Held.{stateOf}
+use Rattle.rules.specs.Shape.{inShape}
+use Rattle.rules.specs.declared.state.State.{State}
+use Rattle.rules.proofs.Lists.{and-left}
+use Rattle.rules.proofs.shape.Laws.{tested-inShape}
 use Rattle.ring.proofs.state.Ring.receipt.Statement.{statement}
 use Rattle.ring.proofs.state.Ring.receipt.Tie as tie
 
@@ -21,8 +22,8 @@ abbrev start : tie.After-layout-fits → tie.Start
 start c = c .before .before .before .before .before .before .before .before .before .before
 
 -- the ring that the method is given
-abbrev self : tie.After-layout-fits → Ring
-self c = start c .args .t1
+abbrev self : tie.After-layout-fits → State
+self c = stateOf (start c .args .t1)
 
 -- the code's test is the definition's
 fitting : (c : tie.After-layout-fits) → c .before .before .before .before .counts-fit .result && c .layout-fits .result ≡ inShape (self c)

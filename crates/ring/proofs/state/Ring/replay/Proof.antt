@@ -6,14 +6,16 @@ use mathlib.Core.List.{[]}
 use native.Mathlib.Omega.{arith}
 use borrow.Author.Needs.{needs}
 use borrow.Author.Tests.{not-true, not-false, lt-ltb, le-ltb}
-use Rattle.ring.specs.State.{sizeOf}
-use Rattle.ring.specs.Answers.{Outcome}
-use Rattle.ring.specs.Shape.{sizeFits}
-use Rattle.ring.specs.SetUp.{freshRing}
-use Rattle.ring.specs.Actions.{decoded}
-use Rattle.ring.specs.Replay.{ran, ranRoom, Reached}
-use Rattle.ring.specs.declared.state.Ring.{Ring}
-use Rattle.ring.proofs.runs.Always.{fresh-is}
+use Rattle.ring.specs.Held.{stateOf}
+use Rattle.rules.specs.State.{sizeOf}
+use Rattle.rules.specs.Answers.{Outcome}
+use Rattle.rules.specs.Shape.{sizeFits}
+use Rattle.rules.specs.SetUp.{freshRing}
+use Rattle.rules.specs.Actions.{decoded}
+use Rattle.rules.specs.Replay.{ranRoom, Reached}
+use Rattle.ring.specs.Replay.{ran}
+use Rattle.rules.specs.declared.state.State.{State}
+use Rattle.rules.proofs.runs.Always.{fresh-is}
 use Rattle.ring.proofs.state.Ring.replay.Statement.{statement}
 use Rattle.ring.proofs.state.Ring.replay.Tie as tie
 
@@ -36,7 +38,7 @@ returns-2 c =
 abbrev start : tie.After-fresh → tie.Start
 start c = c .before .before .before .before .before .before
 
-fresh-ring : (c : tie.After-fresh) → c .fresh .result .ring ≡ freshRing (sizeOf (start c .args .pages) (start c .args .slots) (start c .args .mode))
+fresh-ring : (c : tie.After-fresh) → stateOf (c .fresh .result .ring) ≡ freshRing (sizeOf (start c .args .pages) (start c .args .slots) (start c .args .mode))
 fresh-ring c = ap (λ (o : Outcome). o .ring) (c .fresh .ensures) ∙ fresh-is (start c .args .pages) (start c .args .slots) (start c .args .mode) (fits (c .before .before))
 
 run-requires : tie.Need-run-requires
@@ -54,8 +56,8 @@ returns-3 : tie.Need-returns-3
 returns-3 c =
     let f = c .before .before .before .before in
     let enough = le-ltb _ _ (f .before .if2 .left) in (
-      rw (fits (f .before .before), enough) (c .before .before .run .ensures .0 ∙ ap (λ (r : Ring). ran r (decoded (start f .args .bytes .now))) (fresh-ring f)),
-      rw (fits (f .before .before), enough) (c .before .before .run .ensures .1 ∙ ap (λ (r : Ring). ranRoom r (decoded (start f .args .bytes .now)) (start f .args .room .now)) (fresh-ring f)),
+      rw (fits (f .before .before), enough) (c .before .before .run .ensures .0 ∙ ap (λ (r : State). ran r (decoded (start f .args .bytes .now))) (fresh-ring f)),
+      rw (fits (f .before .before), enough) (c .before .before .run .ensures .1 ∙ ap (λ (r : State). ranRoom r (decoded (start f .args .bytes .now)) (start f .args .room .now)) (fresh-ring f)),
     )
 
 pub replay-spec : {M : Type 1} → statement M

@@ -5,24 +5,25 @@ use Prim.Native.Nat.{ℕ, _+_, _*_, _^_, _-_, _≤_, _<_}
 use native.Mathlib.Omega.{arith}
 use borrow.Author.Needs.{needs}
 use lib.ListN.{length}
-use Rattle.ring.specs.Limits.{mostDepth}
-use Rattle.ring.specs.Actions.{codedAt}
-use Rattle.ring.specs.Replay.{answerNumbers, laidAt}
-use Rattle.ring.specs.Pieces.{StoresFit}
-use Rattle.ring.specs.Change.{changeOf, changed}
-use Rattle.ring.specs.declared.state.Action.{Action}
-use Rattle.ring.specs.declared.state.Ring.{Ring}
-use Rattle.ring.specs.declared.moves.Change.{Change}
-use Rattle.ring.specs.declared.actions.Coded.the-variants.{Whole}
+use Rattle.ring.specs.Held.{stateOf}
+use Rattle.rules.specs.Limits.{mostDepth}
+use Rattle.rules.specs.Actions.{codedAt}
+use Rattle.rules.specs.Replay.{answerNumbers, laidAt}
+use Rattle.rules.specs.Pieces.{StoresFit}
+use Rattle.rules.specs.Change.{changeOf, changed}
+use Rattle.rules.specs.declared.state.Action.{Action}
+use Rattle.rules.specs.declared.state.State.{State}
+use Rattle.rules.specs.declared.moves.Change.{Change}
+use Rattle.rules.specs.declared.actions.Coded.the-variants.{Whole}
 use Rattle.ring.proofs.actions.Laws.{whole-moves, decoded-stops, stops-of-numbers}
-use Rattle.ring.proofs.shape.Laws.{InShape, in-shape}
+use Rattle.rules.proofs.shape.Laws.{InShape, in-shape}
 use Rattle.ring.proofs.change.Laws.{change-fits, change-top, change-stores}
 use Rattle.ring.proofs.replay.Laws.{Progress, start, shaped, room-length, turn, finish}
 use Rattle.ring.proofs.state.Ring.run.Statement.{statement}
 use Rattle.ring.proofs.state.Ring.run.Tie as tie
 
 abbrev Inv-loop : tie.InvT-loop
-Inv-loop bytes room₀ self₀ at₀ made₀ room self at made = Progress self₀ bytes room₀ self room at made
+Inv-loop bytes room₀ self₀ at₀ made₀ room self at made = Progress (stateOf self₀) bytes room₀ (stateOf self) room at made
 
 abbrev μ-loop : tie.MeasureT-loop
 μ-loop bytes room₀ self₀ at₀ made₀ room self at made = length bytes - at
@@ -32,8 +33,8 @@ loop-holds c = start _ _ _
 
 -- ---- the ring at the start of a turn
 
-abbrev ring : tie.After-top-at Inv-loop μ-loop → Ring
-ring c = c .before .before .before .before .before .loop .self
+abbrev ring : tie.After-top-at Inv-loop μ-loop → State
+ring c = stateOf (c .before .before .before .before .before .loop .self)
 
 abbrev action : tie.After-top-at Inv-loop μ-loop → Action
 action c = c .before .before .action .given .0 .0

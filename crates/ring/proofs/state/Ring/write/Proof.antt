@@ -9,14 +9,15 @@ use borrow.Author.Needs.{needs}
 use mir.Syntax.{w32}
 use mir.Val.{Fits}
 use lib.ListN.{getD}
-use Rattle.ring.specs.Limits.{mostPages, slotRoom}
-use Rattle.ring.specs.State.{top}
-use Rattle.ring.specs.Refusals.{writeVerdict}
-use Rattle.ring.specs.Shape.{inShape}
-use Rattle.ring.specs.Write.{planWrite, writeRule}
-use Rattle.ring.specs.Pieces.{StoresFit, MoveFits}
-use Rattle.ring.specs.declared.state.Ring.{Ring}
-use Rattle.ring.proofs.shape.Laws.{InShape, in-shape, tested-inShape}
+use Rattle.ring.specs.Held.{stateOf}
+use Rattle.rules.specs.Limits.{mostPages, slotRoom}
+use Rattle.rules.specs.State.{top}
+use Rattle.rules.specs.Refusals.{writeVerdict}
+use Rattle.rules.specs.Shape.{inShape}
+use Rattle.rules.specs.Write.{planWrite, writeRule}
+use Rattle.rules.specs.Pieces.{StoresFit, MoveFits}
+use Rattle.rules.specs.declared.state.State.{State}
+use Rattle.rules.proofs.shape.Laws.{InShape, in-shape, tested-inShape}
 use Rattle.ring.proofs.write.Laws.{Allows, allows, top-fits, plan-fits}
 use Rattle.ring.proofs.pieces.Laws.{leaves, write-leaves, stores-fit}
 use Rattle.ring.proofs.state.Ring.write.Statement.{statement}
@@ -31,8 +32,8 @@ abbrev start : tie.After-write-verdict → tie.Start
 start c = c .before .before .before .before .before .before .before .before .before .before .before
 
 -- the ring that the method is given
-abbrev self : tie.After-write-verdict → Ring
-self c = start c .args .t1
+abbrev self : tie.After-write-verdict → State
+self c = stateOf (start c .args .t1)
 
 -- the code's test is the definition's
 fitting : (c : tie.After-write-verdict) → c .before .before .before .before .before .counts-fit .result && c .before .layout-fits .result ≡ inShape (self c)
@@ -47,7 +48,7 @@ returns c = rw (sym (verdict (c .before .before .before)) ∙ c .before .why .gi
 
 -- ---- where it is Allowed
 
-abbrev given : tie.After-enum-told → Ring
+abbrev given : tie.After-enum-told → State
 given c = self (c .before .before)
 
 allowed : (c : tie.After-enum-told) → Allows (inShape (given c)) (given c .depth)

@@ -37,10 +37,10 @@ use denote.Triple.Spec.{Meets, tripleOf}
 use denote.Triple.Table.{entered, cited}
 use denote.Triple.Walked.{says, Stays, stay-none, walkOf, goes-none, Walks, ends-at, walked, walk-meets}
 use denote.Exit.{yes}
-use Rattle.ring.specs.Actions.{codedAt}
-use Rattle.ring.specs.declared.actions.Coded.{Coded}
-use Rattle.ring.proofs.actions.Coded as S
-use Rattle.ring.proofs.actions.Coded.Laws as S′
+use Rattle.rules.specs.Actions.{codedAt}
+use Rattle.rules.specs.declared.actions.Coded.{Coded}
+use Rattle.rules.proofs.actions.Coded as S
+use Rattle.rules.proofs.actions.Coded.Laws as S′
 use Rattle.ring.proofs.actions.action_at as action
 use Rattle.ring.proofs.actions.action_at.Symbol as action-def
 use Rattle.ring.proofs.actions.action_at.Symbol.{name as #action-at}

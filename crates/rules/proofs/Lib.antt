@@ -1,0 +1,16 @@
+-- Laws and theorems that belong to no one function. The proof of a function stands in a folder of its own.
+pub mod Lists
+pub mod Cases
+-- demand 3: the invariant, the laws of its parts, what each step does to them, every list of actions, and the theorem
+pub mod invariant
+pub mod order
+pub mod control
+pub mod accounts
+pub mod fates
+pub mod bounds
+pub mod runs
+pub mod demand
+pub mod setup
+pub mod shape
+pub mod read
+pub mod drain

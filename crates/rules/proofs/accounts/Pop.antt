@@ -1,0 +1,171 @@
+-- A popped record keeps the accounts: Pending, Dropped, which is counted, and Committed, which commits all that is taken.
+-- Assumes nothing.
+use mathlib.Core.Path.{_≡_, sym, ap, _∙_, subst}
+use mathlib.Core.List.{List}
+use Prim.Native.Nat.{ℕ, _+_, _≤_}
+use native.Mathlib.Omega.{arith}
+use borrow.Author.Tests.{lt-ltb}
+use lib.ListN.{length, set, length-set}
+use Rattle.rules.specs.State.{noWriter, top, pop}
+use Rattle.rules.specs.Write.{drop, commit}
+use Rattle.rules.specs.Remember.{BegunWriter, Numbered, By, History}
+use Rattle.rules.specs.History.{others, onEnded, onDropped, allCommitted, onCommitted}
+use Rattle.rules.specs.declared.state.WriterPhase.{WriterPhase}
+use Rattle.rules.specs.declared.state.WriterPhase.the-variants as phase
+use Rattle.rules.specs.declared.state.Writer.{Writer}
+use Rattle.rules.specs.declared.state.State.{State}
+use Rattle.rules.proofs.Lists.{by-eq}
+use Rattle.rules.proofs.invariant.Order.{N, S, R, T, topAt, usedOf, phaseAt, Held, place}
+use Rattle.rules.proofs.invariant.Control.{Owns, Control}
+use Rattle.rules.proofs.invariant.Accounts.{Sums, valueOf, Ordered, Values, early, earlies, lostOf, Past, AtWork, Accounts}
+use Rattle.rules.proofs.accounts.Laws.{value-other, earlies-above}
+use Rattle.rules.proofs.accounts.Phase.{early-not-held, balance-top}
+use Rattle.rules.proofs.accounts.Readings.{length-allCommitted, allCommitted-number, allCommitted-own, allCommitted-committed}
+use Rattle.rules.proofs.accounts.Working.{others-length, others-at}
+use Rattle.rules.proofs.order.Records.{phase-other}
+
+module _ {s : State} {h : History} {L : ℕ → ℕ} {pc pt a r0 gap : ℕ} (b : Accounts s h L pc pt a r0 gap) (deep : 1 ≤ s .depth) (room : s .depth ≤ length (s .stack)) where
+  abbrev stack' : List Writer
+  stack' = set (s .stack) (topAt s) noWriter
+
+  work' : AtWork (h .marker) stack' (topAt s) (others (h .working))
+  work' =
+      let k = b .work in
+      record {
+        many = others-length (h .working) (k .many) deep;
+        value = λ i hi.
+            ap (λ (w : BegunWriter). w .value) (others-at (h .working) (k .many) i hi)
+            ∙ k .value i (omega arith)
+            ∙ sym (value-other (s .stack) (topAt s) i noWriter (omega arith));
+        marks = λ i p hi o.
+            k .marks i p (omega arith) (subst (λ (f : WriterPhase). Owns f p) (phase-other (s .stack) (topAt s) i noWriter (omega arith)) o)
+            ∙ ap (λ (w : BegunWriter). By (w .nth)) (sym (others-at (h .working) (k .many) i hi));
+      }
+
+  -- the values, where the top record holds no slot
+  values' : ((p j : ℕ) → top s .phase ≡ Held p j → ⊥)
+      → Values (s .numbers) (s .values) (s .used) (N s) (S s) stack' (topAt s) (place (R s) L) pc pt (s .counts .committed) (h .readings)
+  values' free =
+      record {
+        held = λ i hi.
+            rw (value-other (s .stack) (topAt s) i noWriter (omega arith), phase-other (s .stack) (topAt s) i noWriter (omega arith)) (b .values .held i (omega arith));
+        stored = λ p j hp hj new.
+            b .values .stored p j hp hj
+            (λ i hi z.
+            by-eq i (topAt s)
+            (λ y. free p j (ap (phaseAt (s .stack)) (sym y) ∙ z))
+            (λ k. new i (omega arith) (phase-other (s .stack) (topAt s) i noWriter k ∙ z)));
+      }
+
+  -- n is the count of drops after the pop
+  balance' : (n : ℕ) → s .counts .dropped + early (top s .phase) ≡ n → s .counts .begun ≡ s .counts .taken + n + earlies stack' (topAt s)
+  balance' n q = omega (arith, balance-top b deep room, earlies-above (s .stack) (topAt s) (topAt s) noWriter (omega arith))
+
+  filled-free : top s .phase ≡ phase.Filled → (p j : ℕ) → top s .phase ≡ Held p j → ⊥
+  filled-free q p j z =
+      let y : _≡_ {A = ℕ} 0 1 = cc in
+      omega arith
+
+  pub pending-accounts : top s .phase ≡ phase.Filled → Accounts (pop s) (onEnded h) L pc pt a r0 gap
+  pending-accounts q =
+      record {
+        contents = b .contents;
+        sums = b .sums;
+        values = values' (filled-free q);
+        quiet = b .quiet;
+        recorded = b .recorded;
+        work = work';
+        balance = balance' (s .counts .dropped) (omega (arith, ap early q));
+        stackRoom = length-set (s .stack) (topAt s) noWriter ∙ b .stackRoom;
+      }
+
+  pub dropped-accounts : top s .phase ≡ phase.Want → Accounts (drop s) (onDropped h) L pc pt a r0 gap
+  dropped-accounts q =
+      record {
+        contents = b .contents;
+        sums = b .sums;
+        values = values' (λ p j. early-not-held p j (ap early q));
+        quiet = b .quiet;
+        recorded = b .recorded;
+        work = work';
+        balance = balance' (s .counts .dropped + 1) (omega (arith, ap early q));
+        stackRoom = length-set (s .stack) (topAt s) noWriter ∙ b .stackRoom;
+      }
+
+  -- ---- the outermost writer commits
+
+  module _ (v : Control s L pc pt) (q : top s .phase ≡ phase.Filled) (one : s .depth ≡ 1) where
+    abbrev readings' : List Numbered
+    readings' = allCommitted (h .readings)
+
+    same-value : (m : ℕ) → valueOf (h .readings) m ≡ valueOf readings' m
+    same-value m = ap (λ (w : BegunWriter). w .value) (sym (allCommitted-own (h .readings) m))
+
+    sums' : Sums (S s) (usedOf s (R s)) (usedOf s (T s)) (usedOf s (T s)) (usedOf s (T s)) (s .places .position) (s .counts .taken) (s .counts .taken)
+        (s .counts .handed) (s .counts .overwritten) pt pt a r0 gap
+    sums' =
+        let c = b .sums in
+        let o = v .order in
+        record {
+          takenIs = c .takenIs;
+          committedIs = c .takenIs;
+          indexed = omega arith;
+          read = c .read;
+          readCommitted = λ z.
+              let y : usedOf s (R s) ≡ usedOf s (T s) = ap (usedOf s) (ap (place (R s) L) (sym z) ∙ o .tailAt) in
+              omega (arith, c .read);
+          joined = λ z. c .joined (omega (arith, o .le));
+          readerFrom = λ z. c .readerFrom (omega (arith, o .le));
+          ringFrom = λ z.
+              by-eq pc 0
+              (λ y. omega (arith, o .full0 y (omega arith), c .joined y, c .readerFrom y))
+              (λ y. c .ringFrom (omega arith));
+          total = c .total;
+        }
+
+    past' : Past (h .events) (lostOf (h .overwritings)) readings' (s .counts .handed) (s .counts .overwritten) r0 (s .places .position) (usedOf s (R s)) gap
+    past' =
+        let k = b .recorded .past in
+        record {
+          handedIs = k .handedIs;
+          overwrittenIs = k .overwrittenIs;
+          given = k .given;
+          rising = k .rising;
+          own = λ i hi. k .own i hi ∙ same-value _;
+          lostLow = k .lostLow;
+          lostApart = k .lostApart;
+          lostRising = k .lostRising;
+          covered = k .covered;
+          gone = k .gone;
+          apart = k .apart;
+        }
+
+    ordered' : Ordered readings' (s .counts .taken) (s .counts .taken)
+    ordered' =
+        let o = b .recorded .ordered in
+        record {
+          size = length-allCommitted (h .readings) ∙ o .size;
+          nth = λ k hk. allCommitted-number (h .readings) k ∙ o .nth k hk;
+          committed-below = λ k hk.
+              allCommitted-committed (h .readings) k (omega (arith, o .size)) ∙ sym (lt-ltb k (s .counts .taken) hk);
+        }
+
+    pub committed-accounts : Accounts (commit s) (onCommitted h) L pt pt a r0 gap
+    committed-accounts =
+        record {
+          contents = b .contents;
+          sums = sums';
+          values = record {
+            held = λ i hi. absurd (omega arith);
+            stored = λ p j hp hj new. values' (filled-free q) .stored p j hp hj new ∙ same-value _;
+          };
+          quiet = b .quiet;
+          recorded = record {
+            past = past';
+            ordered = ordered';
+            rightly = b .recorded .rightly;
+          };
+          work = work';
+          balance = balance' (s .counts .dropped) (omega (arith, ap early q));
+          stackRoom = length-set (s .stack) (topAt s) noWriter ∙ b .stackRoom;
+        }

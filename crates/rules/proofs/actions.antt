@@ -1,0 +1,2 @@
+-- What the proofs about actions as bytes share.
+pub mod Shift

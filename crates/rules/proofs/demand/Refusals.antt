@@ -1,0 +1,105 @@
+-- An action on a ring in shape is refused just as listed, and its receipt is not refused. The rules of Write and Read answer no refusal, by a look at each
+-- rule that may apply; so an action is refused only by its verdict, whose tests are those of the list.
+-- Assumes nothing.
+use mathlib.Core.Path.{_≡_, refl}
+use mathlib.Core.Logic.{_≢_}
+use mathlib.Core.Bool.{true, _&&_, _||_}
+use Prim.Native.Nat.{ℕ}
+use lib.Dec.{eqb, ltb}
+use Rattle.rules.specs.Limits.{mostDepth, mostCount, stop, header, update}
+use Rattle.rules.specs.State.{wordAt, usedAt, top}
+use Rattle.rules.specs.Words.{pageIn, flagIn, samePage, readerOnCommit, links, findHeader}
+use Rattle.rules.specs.Shape.{inShape}
+use Rattle.rules.specs.Write.{planFull, afterPromote, promoteBy, planPhase, planWrite, moved}
+use Rattle.rules.specs.Read.{readLimit, findBy, planReader, planRead, fetched}
+use Rattle.rules.specs.Act.{act}
+use Rattle.rules.specs.Demand.{listed, Sound}
+use Rattle.rules.specs.declared.state.PageNo.{PageNo}
+use Rattle.rules.specs.declared.state.WriterPhase.{WriterPhase}
+use Rattle.rules.specs.declared.state.WriterPhase.the-variants as phase
+use Rattle.rules.specs.declared.state.ReaderPhase.{ReaderPhase}
+use Rattle.rules.specs.declared.state.ReaderPhase.the-variants as reading
+use Rattle.rules.specs.declared.state.Action.{Action}
+use Rattle.rules.specs.declared.state.Action.the-variants as action
+use Rattle.rules.specs.declared.state.State.{State}
+use Rattle.rules.specs.declared.moves.Search.{Search}
+use Rattle.rules.specs.declared.moves.Search.the-variants as found
+use Rattle.rules.specs.declared.moves.Move.{Move}
+use Rattle.rules.specs.declared.moves.Fetch.{Fetch}
+use Rattle.rules.proofs.Lists.{by-bool, by-cond}
+
+-- ---- what an allowed Write or Read answers
+
+module _ (s : State) where
+  abbrev MoveUnrefused : Move → Type 0
+  MoveUnrefused m = moved m s .tells .refusal ≡ 0
+
+  full-unrefused : (n : PageNo) (flag : ℕ) → MoveUnrefused (planFull (s .size) (s .places) n flag)
+  full-unrefused n flag =
+      by-cond MoveUnrefused (samePage (s .places .tail) (s .places .reader)) (λ e. refl) (λ e.
+      by-cond MoveUnrefused (samePage n (s .places .commit)) (λ e. refl) (λ e.
+      by-cond MoveUnrefused (eqb flag header && readerOnCommit (s .places)) (λ e. refl) (λ e.
+      by-cond MoveUnrefused (eqb flag header && eqb (s .size .mode) stop) (λ e. refl) (λ e.
+      by-cond MoveUnrefused (eqb flag header || eqb flag update) (λ e. refl) (λ e. refl)))))
+
+  promote-unrefused : (found : Search) (n : PageNo) (next : WriterPhase) → MoveUnrefused (promoteBy found n next)
+  promote-unrefused (found.At p h) n next = refl
+  promote-unrefused found.Nowhere n next = refl
+
+  phase-unrefused : (ph : WriterPhase) → MoveUnrefused (planPhase ph (s .size) (s .places) (s .depth) (s .words) (s .used))
+  phase-unrefused phase.Want =
+      by-cond MoveUnrefused (ltb (usedAt (s .used) (s .places .tail)) (s .size .slots))
+      (λ e. refl)
+      (λ e. full-unrefused (pageIn (wordAt (s .words) (s .places .tail))) (flagIn (wordAt (s .words) (s .places .tail))))
+  phase-unrefused (phase.Mark t n) =
+      by-cond MoveUnrefused (links (s .words) t n header) (λ e. refl) (λ e.
+      by-cond MoveUnrefused (links (s .words) t n update) (λ e. refl) (λ e. refl))
+  phase-unrefused (phase.Promote t n own) = promote-unrefused (findHeader (s .words) (s .size .pages) (s .places .reader)) n (afterPromote t n own)
+  phase-unrefused (phase.Clear t n) = by-cond MoveUnrefused (links (s .words) t n update) (λ e. refl) (λ e. refl)
+  phase-unrefused (phase.Push t n) = by-cond MoveUnrefused (samePage (s .places .tail) t) (λ e. refl) (λ e. refl)
+  phase-unrefused (phase.Held p slot) = refl
+  phase-unrefused phase.Filled = by-cond MoveUnrefused (eqb (s .depth) 1) (λ e. refl) (λ e. refl)
+
+  write-not-refused : moved (planWrite s) s .tells .refusal ≡ 0
+  write-not-refused = phase-unrefused (top s .phase)
+
+  abbrev FetchUnrefused : Fetch → Type 0
+  FetchUnrefused f = fetched f s .tells .refusal ≡ 0
+
+  found-unrefused : (found : Search) → FetchUnrefused (findBy found)
+  found-unrefused (found.At p h) = refl
+  found-unrefused found.Nowhere = refl
+
+  reader-unrefused : (ph : ReaderPhase) → FetchUnrefused (planReader ph (s .size) (s .places) (s .words) (s .used))
+  reader-unrefused reading.Idle =
+      by-cond FetchUnrefused (ltb (s .places .position) (readLimit (s .places) (s .used))) (λ e. refl) (λ e.
+      by-cond FetchUnrefused (readerOnCommit (s .places)) (λ e. refl) (λ e.
+      found-unrefused (findHeader (s .words) (s .size .pages) (s .places .reader))))
+  reader-unrefused (reading.Found p h) = refl
+  reader-unrefused (reading.Ready p h) = by-cond FetchUnrefused (links (s .words) p h header) (λ e. refl) (λ e. refl)
+
+  read-not-refused : fetched (planRead s) s .tells .refusal ≡ 0
+  read-not-refused = reader-unrefused (s .reader .phase)
+
+  -- ---- an action on a ring in shape
+
+  module _ (fits : inShape s ≡ true) where
+    refusals : (a : Action) → act s a .tells .refusal ≡ listed s a
+    refusals (action.Begin v) =
+        by-bool (eqb (s .depth) mostDepth)
+        (λ d. rw (fits, d))
+        (λ d. by-bool (eqb (s .counts .begun) mostCount) (λ w. rw (fits, d, w)) (λ w. rw (fits, d, w)))
+    refusals action.Write = by-bool (eqb (s .depth) 0) (λ d. rw (fits, d)) (λ d. rw (fits, d) write-not-refused)
+    refusals action.Read = rw fits read-not-refused
+
+    -- a refused action gives the same ring back
+    same-ring : (a : Action) → listed s a ≢ 0 → act s a .ring ≡ s
+    same-ring (action.Begin v) =
+        by-bool (eqb (s .depth) mostDepth)
+        (λ d. rw (fits, d) (λ n. refl))
+        (λ d. by-bool (eqb (s .counts .begun) mostCount) (λ w. rw (fits, d, w) (λ n. refl)) (λ w. rw (fits, d, w) (λ n. absurd (n refl))))
+    same-ring action.Write = by-bool (eqb (s .depth) 0) (λ d. rw (fits, d) (λ n. refl)) (λ d. rw (fits, d) (λ n. absurd (n refl)))
+    same-ring action.Read = λ n. absurd (n refl)
+
+    pub sound : Sound s
+    sound = record { shape = fits; refusals = refusals; same = same-ring; receipt = rw fits }

@@ -1,0 +1,5 @@
+-- What the proofs about a drain share; that it is so many Reads made singly; and that eight Reads in a row never end one of a ring that is
+-- reached.
+pub mod Singly
+pub mod Soon
+pub mod Within

@@ -1,0 +1,165 @@
+-- Drain: Reads made one after the other, and their Events laid in a buffer that is lent. Request E2: "Ring, events and last answer are those
+-- of the same Reads made singly." A `Drain` is what some Reads leave; `drained` makes them, in rows; `drainRule` is the call. What the code
+-- gives back of it is `drainedInto` and `laidOut`; in one call, with the part, `handedBack` (specs/Drained).
+-- Assumes nothing.
+use mathlib.Core.Path.{_≡_}
+use mathlib.Core.Bool.{Bool, cond}
+use mathlib.Core.List.{List, [], _∷_}
+use Prim.Native.Nat.{ℕ, zero, suc, _+_, _*_, _^_, _≤_}
+use lib.ListN.{length, getD, replicate}
+use Rattle.rules.specs.Limits.{mostInRow}
+use Rattle.rules.specs.Lists.{tabulate}
+use Rattle.rules.specs.State.{reading}
+use Rattle.rules.specs.Answers.{Outcome}
+use Rattle.rules.specs.Shape.{inShape}
+use Rattle.rules.specs.Read.{readRule}
+use Rattle.rules.specs.Replay.{ringAfter, answersOf, over}
+use Rattle.rules.specs.declared.state.ReadingNo.{ReadingNo}
+use Rattle.rules.specs.declared.state.Refusal.the-variants.{Shape}
+use Rattle.rules.specs.declared.state.Answer.{Answer}
+use Rattle.rules.specs.declared.state.Answer.the-variants as answer
+use Rattle.rules.specs.declared.state.Action.the-variants.{Read}
+use Rattle.rules.specs.declared.state.State.{State}
+use Rattle.rules.specs.declared.state.Last.{Last}
+use Rattle.rules.specs.declared.state.Last.the-variants.{None, Given}
+
+-- ---- what an answer is to a drain
+
+-- "number × 2^32 + value"
+abbrev pub eventNumber : ReadingNo → ℕ → ℕ
+eventNumber n v = n .0 * 2 ^ 32 + v
+
+-- an Event, as the number that is stored; "Empty, Busy or a refusal"; and what is none of these, after which the Reads go on
+pub data Kind : Type 0 where
+  event : ℕ → Kind
+  ending : Kind
+  quiet : Kind
+
+abbrev pub kindOf : Answer → Kind
+kindOf (answer.Event n v) = event (eventNumber n v)
+kindOf answer.Empty = ending
+kindOf answer.Busy = ending
+kindOf (answer.Refused why) = ending
+kindOf answer.Found = quiet
+kindOf answer.Prepared = quiet
+kindOf answer.Swapped = quiet
+kindOf answer.Missed = quiet
+-- no Read answers these
+kindOf answer.Accepted = quiet
+kindOf (answer.Begun depth) = quiet
+kindOf (answer.Reserved n) = quiet
+kindOf answer.Looked = quiet
+kindOf answer.Dropped = quiet
+kindOf answer.Marked = quiet
+kindOf answer.Shared = quiet
+kindOf answer.Retry = quiet
+kindOf answer.Promoted = quiet
+kindOf answer.Standing = quiet
+kindOf answer.Cleared = quiet
+kindOf answer.Pushed = quiet
+kindOf answer.Passed = quiet
+kindOf answer.Filled = quiet
+kindOf (answer.Committed count) = quiet
+kindOf answer.Pending = quiet
+
+-- ---- the Reads
+
+-- what some Reads leave: the ring, the events that they told, in the order of the Reads and each as it is stored, and the last answer
+pub record Drain : Type 0 where
+  pub ring : State
+  pub events : List ℕ
+  pub last : Last
+
+abbrev pub noMore : State → Last → Drain
+noMore r last = record { ring = r; events = []; last = last }
+
+-- one event before others
+abbrev pub before : ℕ → Drain → Drain
+before e d = record { ring = d .ring; events = e ∷ d .events; last = d .last }
+
+-- after a Read: its event with what comes `later`; the end; or, after a quiet answer, `on`
+abbrev pub byKind : Kind → Drain → Drain → Drain → Drain
+byKind (event e) later end on = before e later
+byKind ending later end on = end
+byKind quiet later end on = on
+
+-- after a Read with this outcome; both go on from its ring and its answer
+abbrev pub afterRead : (State → Last → Drain) → (State → Last → Drain) → Outcome → Drain
+afterRead later on o =
+    byKind (kindOf (o .answer))
+    (later (o .ring) (Given (o .answer)))
+    (noMore (o .ring) (Given (o .answer)))
+    (on (o .ring) (Given (o .answer)))
+
+-- Reads in a row, at most `left` of them, until one is not quiet; after an Event the drain goes on as `later` says
+abbrev pub row : (State → Last → Drain) → ℕ → State → Last → Drain
+row later zero r last = noMore r last
+row later (suc left) r last = afterRead later (row later left) (readRule r)
+
+-- "Reads are made until the buffer is full", of which `room` elements are left, "or an answer is Empty, Busy or a refusal, or" `most` "Reads
+-- in a row have brought none of these and no Event"
+abbrev pub drained : ℕ → ℕ → State → Last → Drain
+drained most zero r last = noMore r last
+drained most (suc room) r last = row (drained most room) most r last
+
+-- "A ring out of shape gets 1, whatever the buffer's length, with nothing stored and an empty part handed back. Otherwise length 0 means no
+-- Read, the same ring, last answer "none"."
+abbrev pub drainRule : State → ℕ → Drain
+drainRule r room = cond (inShape r) (drained mostInRow room r None) (noMore r (Given (answer.Refused Shape)))
+
+-- ---- as the code makes it
+
+-- the reading i slots after a slot, as it is stored, and so many of them
+abbrev pub eventAt : List ℕ → List ℕ → ℕ → ℕ → ℕ
+eventAt numbers values from i = eventNumber (reading (getD numbers (from + i) 0)) (getD values (from + i) 0)
+
+abbrev pub eventsFrom : List ℕ → List ℕ → ℕ → ℕ → List ℕ
+eventsFrom numbers values from count = tabulate count (eventAt numbers values from)
+
+-- the last answer where the turns end: a Read that is still due is refused, since the ring is out of shape
+abbrev pub lastAfter : Bool → Last → Last
+lastAfter due last = cond due (Given (answer.Refused Shape)) last
+
+-- ---- the same as single actions
+
+abbrev eventThen : Kind → List ℕ → List ℕ
+eventThen (event e) es = e ∷ es
+eventThen ending es = es
+eventThen quiet es = es
+
+-- the events that some answers tell
+abbrev pub eventsAmong : List Answer → List ℕ
+eventsAmong [] = []
+eventsAmong (a ∷ rest) = eventThen (kindOf a) (eventsAmong rest)
+
+-- the last of some answers, after the one before them
+abbrev pub lastOf : Last → List Answer → Last
+lastOf last [] = last
+lastOf last (a ∷ rest) = lastOf (Given a) rest
+
+-- "the same Reads made singly": so many Reads, one after the other on the ring r, leave what a drain leaves (`drain-singly`, proofs/drain/Singly).
+-- On a ring out of shape it is the one Read that gets 1.
+pub record Singly (r : State) (d : Drain) : Type 0 where
+  pub reads : ℕ
+  pub ring : d .ring ≡ ringAfter r (replicate reads Read)
+  pub events : d .events ≡ eventsAmong (answersOf r (replicate reads Read))
+  pub last : d .last ≡ lastOf None (answersOf r (replicate reads Read))
+
+-- ---- that eight in a row never end a drain of a ring that is reached from a fresh one
+
+-- an Event, Empty or Busy
+pub data Brought : Last → Type 0 where
+  anEvent : (n : ReadingNo) (v : ℕ) → Brought (Given (answer.Event n v))
+  anEmpty : Brought (Given answer.Empty)
+  aBusy : Brought (Given answer.Busy)
+
+-- "a Read sequence brings Event, Empty or Busy within 6"
+abbrev pub enough : ℕ
+enough = 6
+
+-- one drain of one element, with at most six Reads in a row, ends with one of the three; so does every drain with room; and any limit of six
+-- or more gives what eight give
+pub record Brings (r : State) : Type 0 where
+  pub within : Brought (drained enough 1 r None .last)
+  pub ends : (room : ℕ) → Brought (drainRule r (suc room) .last)
+  pub sameAbove : (most room : ℕ) → enough ≤ most → drained most room r None ≡ drained mostInRow room r None

@@ -1,0 +1,162 @@
+-- What an action leaves in each piece of the ring, by what was decided: for code that stores a piece at a time. A piece is what the rule of
+-- specs/Write or specs/Read leaves of it on a ring that has the pieces given and is blank elsewhere. The cells of the arrays alone are listed again,
+-- since a store names a place (`storesAfter`, `readStores`). That all of these together are the rule on the whole ring is `moved-pieces` and
+-- `fetched-pieces` (proofs/pieces/Laws).
+-- Assumes nothing.
+use mathlib.Core.Path.{_≡_}
+use mathlib.Core.List.{List}
+use Prim.Native.Nat.{ℕ, _+_, _≤_, _<_}
+use lib.ListN.{set}
+use Rattle.rules.specs.Limits.{mostPages, mostSlots, slotRoom, normal, header, update}
+use Rattle.rules.specs.State.{reading, sizeOf, writer, withPlaces, withCounts, withDepth, withReader, withWords, withUsed, withNumbers, withValues, withTaken, withHanded, wordAt, slotIndex, recordAt, setRecord, blank}
+use Rattle.rules.specs.Words.{pageIn, wordOf}
+use Rattle.rules.specs.Write.{moved}
+use Rattle.rules.specs.Read.{fetched}
+use Rattle.rules.specs.declared.state.PageNo.{PageNo}
+use Rattle.rules.specs.declared.state.Size.{Size}
+use Rattle.rules.specs.declared.state.Places.{Places}
+use Rattle.rules.specs.declared.state.Counts.{Counts}
+use Rattle.rules.specs.declared.state.WriterPhase.the-variants.{Want}
+use Rattle.rules.specs.declared.state.Writer.{Writer}
+use Rattle.rules.specs.declared.state.Reader.{Reader}
+use Rattle.rules.specs.declared.state.Answer.{Answer}
+use Rattle.rules.specs.declared.state.State.{State}
+use Rattle.rules.specs.declared.moves.Move.{Move}
+use Rattle.rules.specs.declared.moves.Move.the-variants.{Become, Reserve, Drop, Mark, Promote, Clear, Push, Fill, Pend, Commit}
+use Rattle.rules.specs.declared.moves.Fetch.{Fetch}
+use Rattle.rules.specs.declared.moves.Fetch.the-variants as fetch
+use Rattle.rules.specs.declared.moves.Stores.{Stores}
+use Rattle.rules.specs.declared.moves.Stores.the-variants as stores
+
+-- a ring of zeros; no piece below depends on its size
+abbrev pub empty : State
+empty = blank (sizeOf 0 0 0)
+
+-- ---- Write
+
+abbrev pub answerAfter : Move → ℕ → Answer
+answerAfter m taken = moved m (withTaken taken empty) .answer
+
+abbrev pub countsAfter : Move → Counts → List ℕ → Counts
+countsAfter m counts used = moved m (withCounts counts (withUsed used empty)) .ring .counts
+
+abbrev pub placesAfter : Move → Places → List ℕ → Places
+placesAfter m places used = moved m (withPlaces places (withUsed used empty)) .ring .places
+
+abbrev pub depthAfter : Move → ℕ → ℕ
+depthAfter m depth = moved m (withDepth depth empty) .ring .depth
+
+-- the top record, of a writer with this value
+abbrev pub recordAfter : Move → ℕ → Writer
+recordAfter m value = recordAt (moved m (withDepth 1 (setRecord 0 (writer value Want) empty)) .ring .stack) 0
+
+-- the cells that the rule stores to: at most two, each named
+abbrev pub storesAfter : Move → Size → ℕ → ℕ → List ℕ → Stores
+storesAfter (Become next a) size taken value words = stores.Same
+storesAfter (Reserve t slot) size taken value words = stores.Number (slotIndex size t slot) (reading taken) t (slot + 1)
+storesAfter Drop size taken value words = stores.Same
+storesAfter (Mark t n) size taken value words = stores.Take t (wordOf n update) n
+storesAfter (Promote n next) size taken value words = stores.Word n (wordOf (pageIn (wordAt words n)) header)
+storesAfter (Clear t n) size taken value words = stores.Word t (wordOf n normal)
+storesAfter (Push n) size taken value words = stores.Same
+storesAfter (Fill p slot) size taken value words = stores.Value (slotIndex size p slot) value
+storesAfter Pend size taken value words = stores.Same
+storesAfter Commit size taken value words = stores.Same
+
+-- ---- Read
+
+-- the slot that an Event tells is named by the size and the places
+abbrev pub readAnswer : Fetch → Size → Places → List ℕ → List ℕ → Answer
+readAnswer f size places numbers values =
+    fetched f (withPlaces places (withNumbers numbers (withValues values (blank size)))) .answer
+
+abbrev pub readHanded : Fetch → ℕ → ℕ
+readHanded f handed = fetched f (withHanded handed empty) .ring .counts .handed
+
+abbrev pub readPlaces : Fetch → Places → Places
+readPlaces f places = fetched f (withPlaces places empty) .ring .places
+
+abbrev pub readPhase : Fetch → Reader → Reader
+readPhase f reader = fetched f (withReader reader empty) .ring .reader
+
+-- the cells that the rule stores to; `reader` is the reader page
+abbrev pub readStores : Fetch → PageNo → List ℕ → Stores
+readStores fetch.Event reader words = stores.Same
+readStores fetch.Empty reader words = stores.Same
+readStores fetch.Busy reader words = stores.Same
+readStores (fetch.Find p h) reader words = stores.Same
+readStores (fetch.Prepare p h) reader words = stores.Word reader (wordOf (pageIn (wordAt words h)) header)
+readStores (fetch.Swap p h) reader words = stores.Take p (wordOf reader normal) reader
+readStores fetch.Miss reader words = stores.Same
+
+-- ---- the cells stored to, and what the code asks of what is decided
+
+-- an array at a time
+abbrev pub wordsStored : Stores → List ℕ → List ℕ
+wordsStored stores.Same words = words
+wordsStored (stores.Number at number t k) words = words
+wordsStored (stores.Take t word n) words = set words (t .0) word
+wordsStored (stores.Word p word) words = set words (p .0) word
+wordsStored (stores.Value at value) words = words
+
+abbrev pub usedStored : Stores → List ℕ → List ℕ
+usedStored stores.Same used = used
+usedStored (stores.Number at number t k) used = set used (t .0) k
+usedStored (stores.Take t word n) used = set used (n .0) 0
+usedStored (stores.Word p word) used = used
+usedStored (stores.Value at value) used = used
+
+abbrev pub numbersStored : Stores → List ℕ → List ℕ
+numbersStored stores.Same numbers = numbers
+numbersStored (stores.Number at number t k) numbers = set numbers at (number .0)
+numbersStored (stores.Take t word n) numbers = numbers
+numbersStored (stores.Word p word) numbers = numbers
+numbersStored (stores.Value at value) numbers = numbers
+
+abbrev pub valuesStored : Stores → List ℕ → List ℕ
+valuesStored stores.Same values = values
+valuesStored (stores.Number at number t k) values = values
+valuesStored (stores.Take t word n) values = values
+valuesStored (stores.Word p word) values = values
+valuesStored (stores.Value at value) values = set values at value
+
+-- all four
+abbrev pub stored : Stores → State → State
+stored s r =
+    withWords (wordsStored s (r .words))
+    (withUsed (usedStored s (r .used)) (withNumbers (numbersStored s (r .numbers)) (withValues (valuesStored s (r .values)) r)))
+
+-- the cells named are within the arrays
+abbrev pub StoresFit : Stores → Type 0
+StoresFit stores.Same = Unit {0}
+StoresFit (stores.Number at number t used) = (at < slotRoom) × (t .0 ≤ mostPages)
+StoresFit (stores.Take t word n) = (t .0 ≤ mostPages) × (n .0 ≤ mostPages)
+StoresFit (stores.Word p word) = p .0 ≤ mostPages
+StoresFit (stores.Value at value) = at < slotRoom
+
+-- the pages and slots that a move names are such as the ring has room for: what the code that reads and stores them asks
+abbrev pub MoveFits : Move → Type 0
+MoveFits (Become next a) = Unit {0}
+MoveFits (Reserve t slot) = (t .0 ≤ mostPages) × (slot < mostSlots)
+MoveFits Drop = Unit {0}
+MoveFits (Mark t n) = (t .0 ≤ mostPages) × (n .0 ≤ mostPages)
+MoveFits (Promote n next) = n .0 ≤ mostPages
+MoveFits (Clear t n) = (t .0 ≤ mostPages) × (n .0 ≤ mostPages)
+MoveFits (Push n) = n .0 ≤ mostPages
+MoveFits (Fill p slot) = (p .0 ≤ mostPages) × (slot < mostSlots)
+MoveFits Pend = Unit {0}
+MoveFits Commit = Unit {0}
+
+-- the pages that a Read names, in the same way
+abbrev pub FetchFits : Fetch → Type 0
+FetchFits fetch.Event = Unit {0}
+FetchFits fetch.Empty = Unit {0}
+FetchFits fetch.Busy = Unit {0}
+FetchFits (fetch.Find p h) = Unit {0}
+FetchFits (fetch.Prepare p h) = h .0 ≤ mostPages
+FetchFits (fetch.Swap p h) = p .0 ≤ mostPages
+FetchFits fetch.Miss = Unit {0}
+
+-- the slot that an Event tells is one that the ring has room for
+abbrev pub EventFits : Fetch → Size → Places → Type 0
+EventFits f size places = f ≡ fetch.Event → slotIndex size (places .reader) (places .position) < slotRoom

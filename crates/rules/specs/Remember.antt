@@ -1,0 +1,150 @@
+-- What is remembered of a list of actions: writers, readings, Events, overwritings and marks, and one setter for each part. Section "Receipt", from
+-- "Demand 3 tells a reading's place" on.
+-- Assumes nothing.
+use mathlib.Core.Bool.{Bool}
+use mathlib.Core.List.{List}
+use Prim.Native.Nat.{ℕ}
+use Rattle.rules.specs.declared.state.PageNo.{PageNo}
+use Rattle.rules.specs.declared.state.State.{State}
+
+-- a writer: how many Begins were accepted before its own, and the value in its Begin
+pub record BegunWriter : Type 0 where
+  pub nth : ℕ
+  pub value : ℕ
+
+-- "A reading is numbered when a Reserved gave its number: that writer is its own, and its value is the one in that writer's Begin." It is
+-- "committed when an answer Committed has come after its Reserved".
+pub record Numbered : Type 0 where
+  pub number : ℕ
+  pub own : BegunWriter
+  pub committed : Bool
+
+-- an Event: the number and the value that it gave
+pub record Given : Type 0 where
+  pub number : ℕ
+  pub value : ℕ
+
+-- "An overwriting is a Write answered Marked; it takes page n, and the pages are judged as they stand just before it": page n, the ring just before, and the
+-- readings numbered by then
+pub record Overwriting : Type 0 where
+  pub page : PageNo
+  pub before : State
+  pub readings : List Numbered
+
+-- "A Marked makes its writer the writer of that update mark": no writer yet, or the one whose Begin was the nth accepted, from 0
+pub data Marker : Type 0 where
+  Unmarked : Marker
+  By : ℕ → Marker
+
+pub record History : Type 0 where
+  -- how many Begins were accepted
+  pub begins : ℕ
+  -- the writers at work, the latest begun last
+  pub working : List BegunWriter
+  -- the writers whose work ended by Dropped, in order
+  pub droppers : List BegunWriter
+  -- the numbered readings, in the order of their Reserved
+  pub readings : List Numbered
+  -- the Events, in order
+  pub events : List Given
+  -- the Markeds, in order
+  pub overwritings : List Overwriting
+  -- for each page, the writer of the last Marked that put an update mark in its word; it stays when the mark is cleared
+  pub marker : PageNo → Marker
+
+-- ---- makers, and what stands where nothing is remembered
+
+abbrev pub begunWriter : ℕ → ℕ → BegunWriter
+begunWriter nth value = record { nth = nth; value = value }
+
+abbrev pub numbered : ℕ → BegunWriter → Bool → Numbered
+numbered number own committed = record { number = number; own = own; committed = committed }
+
+abbrev pub unbegun : BegunWriter
+unbegun = begunWriter 0 0
+
+-- ---- one setter for each part
+
+abbrev pub withBegins : ℕ → History → History
+withBegins x h =
+    record {
+      begins = x;
+      working = h .working;
+      droppers = h .droppers;
+      readings = h .readings;
+      events = h .events;
+      overwritings = h .overwritings;
+      marker = h .marker;
+    }
+
+abbrev pub withWorking : List BegunWriter → History → History
+withWorking x h =
+    record {
+      begins = h .begins;
+      working = x;
+      droppers = h .droppers;
+      readings = h .readings;
+      events = h .events;
+      overwritings = h .overwritings;
+      marker = h .marker;
+    }
+
+abbrev pub withDroppers : List BegunWriter → History → History
+withDroppers x h =
+    record {
+      begins = h .begins;
+      working = h .working;
+      droppers = x;
+      readings = h .readings;
+      events = h .events;
+      overwritings = h .overwritings;
+      marker = h .marker;
+    }
+
+abbrev pub withReadings : List Numbered → History → History
+withReadings x h =
+    record {
+      begins = h .begins;
+      working = h .working;
+      droppers = h .droppers;
+      readings = x;
+      events = h .events;
+      overwritings = h .overwritings;
+      marker = h .marker;
+    }
+
+abbrev pub withEvents : List Given → History → History
+withEvents x h =
+    record {
+      begins = h .begins;
+      working = h .working;
+      droppers = h .droppers;
+      readings = h .readings;
+      events = x;
+      overwritings = h .overwritings;
+      marker = h .marker;
+    }
+
+abbrev pub withOverwritings : List Overwriting → History → History
+withOverwritings x h =
+    record {
+      begins = h .begins;
+      working = h .working;
+      droppers = h .droppers;
+      readings = h .readings;
+      events = h .events;
+      overwritings = x;
+      marker = h .marker;
+    }
+
+abbrev pub withMarker : (PageNo → Marker) → History → History
+withMarker x h =
+    record {
+      begins = h .begins;
+      working = h .working;
+      droppers = h .droppers;
+      readings = h .readings;
+      events = h .events;
+      overwritings = h .overwritings;
+      marker = x;
+    }

@@ -1,0 +1,106 @@
+-- A turn of a drain, as one record of pieces, for code that keeps the ring in one place: Events that stand one after the other on the reader
+-- page are made together, and a Read of another kind by itself. That storing the pieces makes these Reads is `turn-drains`
+-- (proofs/turn/Laws), for a ring in shape.
+-- Assumes nothing.
+use mathlib.Core.Path.{_≡_}
+use mathlib.Core.Bool.{true, cond}
+use mathlib.Core.List.{List}
+use Prim.Native.Nat.{ℕ, _+_, _-_, _≤_, _<_}
+use lib.Dec.{ltb}
+use Rattle.rules.specs.Limits.{mostPages, mostSlots, mostCount, mostInRow}
+use Rattle.rules.specs.State.{placesPosition, withPlaces, withHanded, withReader, withWords, withUsed, slotIndex}
+use Rattle.rules.specs.Shape.{readerFits}
+use Rattle.rules.specs.Read.{readLimit, planReader}
+use Rattle.rules.specs.Pieces.{readAnswer, readPlaces, readPhase, readStores, wordsStored, usedStored, FetchFits, EventFits}
+use Rattle.rules.specs.declared.state.Size.{Size}
+use Rattle.rules.specs.declared.state.Places.{Places}
+use Rattle.rules.specs.declared.state.Counts.{Counts}
+use Rattle.rules.specs.declared.state.Reader.{Reader}
+use Rattle.rules.specs.declared.state.State.{State}
+use Rattle.rules.specs.declared.state.Last.the-variants.{Given}
+use Rattle.rules.specs.declared.moves.Fetch.{Fetch}
+use Rattle.rules.specs.declared.moves.Fetch.the-variants.{Event, Empty, Busy, Find, Prepare, Swap, Miss}
+use Rattle.rules.specs.declared.moves.Turn.{Turn}
+
+-- ---- Events that stand one after the other
+
+abbrev pub smaller : ℕ → ℕ → ℕ
+smaller a b = cond (ltb a b) a b
+
+-- how many there are: the least of those on the reader page, those that there is room for, and those that the counts allow. The one that makes
+-- handed + overwritten more than committed is allowed, and is the last: it leaves the ring out of shape.
+abbrev pub eventCount : Fetch → Places → Counts → List ℕ → ℕ → ℕ
+eventCount Event places counts used room =
+    smaller (smaller (readLimit places used - places .position) room) (counts .committed + 1 - (counts .handed + counts .overwritten))
+eventCount Empty places counts used room = 0
+eventCount Busy places counts used room = 0
+eventCount (Find p h) places counts used room = 0
+eventCount (Prepare p h) places counts used room = 0
+eventCount (Swap p h) places counts used room = 0
+eventCount Miss places counts used room = 0
+
+-- the places before the last Read of the turn
+abbrev pub placesBefore : Places → ℕ → Places
+placesBefore places count = placesPosition (places .position + (count - 1)) places
+
+-- ---- how many Reads may still be made before the next Event
+
+abbrev pub leftAfter : Fetch → ℕ → ℕ
+leftAfter Event left = mostInRow
+leftAfter Empty left = 0
+leftAfter Busy left = 0
+leftAfter (Find p h) left = left - 1
+leftAfter (Prepare p h) left = left - 1
+leftAfter (Swap p h) left = left - 1
+leftAfter Miss left = left - 1
+
+-- ---- the turn
+
+abbrev pub turn : Fetch → ℕ → ℕ → Size → Places → Counts → Reader → List ℕ → List ℕ → List ℕ → Turn
+turn f count left size places counts reader words numbers values =
+    record {
+      count = count;
+      from = slotIndex size (places .reader) (places .position);
+      last = Given (readAnswer f size (placesBefore places count) numbers values);
+      left = leftAfter f left;
+      handed = counts .handed + count;
+      places = readPlaces f (placesBefore places count);
+      reader = readPhase f reader;
+      stores = readStores f (places .reader) words;
+    }
+
+abbrev pub turnBy : ℕ → ℕ → Size → Places → Counts → Reader → List ℕ → List ℕ → List ℕ → List ℕ → Turn
+turnBy left room size places counts reader words used numbers values =
+    turn (planReader (reader .phase) size places words used) (eventCount (planReader (reader .phase) size places words used) places counts used room)
+    left size places counts reader words numbers values
+
+abbrev pub turnOf : State → ℕ → ℕ → Turn
+turnOf r left room = turnBy left room (r .size) (r .places) (r .counts) (r .reader) (r .words) (r .used) (r .numbers) (r .values)
+
+-- the pieces stored; a Read stores to words and used alone
+abbrev pub turned : Turn → State → State
+turned t r =
+    withReader (t .reader)
+    (withPlaces (t .places)
+    (withHanded (t .handed) (withWords (wordsStored (t .stores) (r .words)) (withUsed (usedStored (t .stores) (r .used)) r))))
+
+-- ---- what the code asks of the pieces: a ring in shape has it (`turn-fits`)
+
+pub record CountFits (f : Fetch) (places : Places) (counts : Counts) (used : List ℕ) : Type 0 where
+  pub page : places .reader .0 ≤ mostPages
+  pub agree : counts .handed + counts .overwritten ≤ counts .committed
+  pub committed : counts .committed ≤ mostCount
+  pub here : f ≡ Event → places .position < readLimit places used
+
+pub record TurnFits (left room : ℕ) (size : Size) (places : Places) (counts : Counts) (reader : Reader) (words used : List ℕ) : Type 0 where
+  pub some : 0 < left
+  pub pages : size .pages ≤ mostPages
+  pub page : places .reader .0 ≤ mostPages
+  pub position : places .position ≤ mostSlots
+  pub phase : readerFits (reader .phase) size ≡ true
+  pub fetch : FetchFits (planReader (reader .phase) size places words used)
+  pub events : CountFits (planReader (reader .phase) size places words used) places counts used
+  pub few : places .position + eventCount (planReader (reader .phase) size places words used) places counts used room ≤ mostSlots
+  pub event :
+      EventFits (planReader (reader .phase) size places words used) size
+      (placesBefore places (eventCount (planReader (reader .phase) size places words used) places counts used room))
