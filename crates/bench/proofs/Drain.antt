@@ -7,8 +7,8 @@ use lib.ListN.{length, drop}
 use lib.Seq.{drop-append-seam}
 use Rattle.rules.specs.Replay.{over}
 use Rattle.rules.specs.Drain.{drainRule}
-use Rattle.ring.specs.Held.{drainedInto, laidOut}
-use Rattle.rules.specs.declared.state.State.{State}
+use Rattle.ring.specs.Ring.{drainedInto, laidOut}
+use Rattle.rules.specs.State.{State}
 use Rattle.ring.specs.declared.state.DrainedInto.{DrainedInto}
 
 over-again : (front old : List ℕ) → over front (over front old) ≡ over front old

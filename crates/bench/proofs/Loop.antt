@@ -4,7 +4,7 @@ use mathlib.Core.Path.{_≡_, ap, _∙_}
 use Prim.Native.Nat.{ℕ, suc, _+_}
 use native.Mathlib.Omega.{arith}
 use Rattle.rules.specs.Answers.{Outcome}
-use Rattle.ring.specs.Held.{stateOf, outcome}
+use Rattle.ring.specs.Ring.{stateOf, outcome}
 use Rattle.ring.specs.declared.state.Step.{Step}
 use Rattle.bench.specs.Loop.{nextOn, ran, handedAfter}
 

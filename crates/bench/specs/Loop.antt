@@ -8,7 +8,7 @@ use Rattle.rules.specs.SetUp.{freshRule}
 use Rattle.rules.specs.Act.{act}
 use Rattle.rules.specs.declared.state.Action.{Action}
 use Rattle.rules.specs.declared.state.Action.the-variants.{Begin, Write, Read}
-use Rattle.rules.specs.declared.state.State.{State}
+use Rattle.rules.specs.State.{State}
 
 -- a Write while a writer is at work, then Reads until nothing waits, then a Begin
 abbrev pub nextAction : ℕ → ℕ → ℕ → ℕ → Action

@@ -3,7 +3,7 @@
 ghost use mathlib.Core.Path.{_≡_};
 ghost use lib.ListN.{length};
 ghost use Rattle.rules.specs.Drain.{drainRule};
-ghost use Rattle.ring.specs.Held.{stateOf, drainedInto, laidOut};
+ghost use Rattle.ring.specs.Ring.{stateOf, drainedInto, laidOut};
 ghost use Rattle.bench.specs.Loop.{nextAction, handedAfter};
 ghost use Rattle.trace.specs.Header.{firstAction};
 ghost use Rattle.trace.specs.Replays.{replayedFrom, roomFrom};

@@ -14,7 +14,7 @@ use Rattle.rules.specs.Demand.{Claim, CompleteClaim, listed}
 use Rattle.rules.specs.declared.state.Action.{Action}
 use Rattle.rules.specs.declared.state.Answer.the-variants.{Accepted}
 use Rattle.rules.specs.declared.state.Receipt.{Receipt}
-use Rattle.ring.specs.Held.{stateOf, ringOf}
+use Rattle.ring.specs.Ring.{stateOf, ringOf}
 use Rattle.ring.specs.declared.state.Ring.{Ring}
 use Rattle.ring.specs.declared.state.Step.{Step}
 

@@ -5,7 +5,7 @@ use mathlib.Core.List.{List}
 use Prim.Native.Nat.{ℕ}
 use denote.Ref.{RefT, now, ptr}
 use Rattle.rules.specs.Drain.{Drain}
-use Rattle.ring.specs.Held.{stateOf}
+use Rattle.ring.specs.Ring.{stateOf}
 use Rattle.ring.specs.declared.drained.Drained.{Drained}
 
 -- the ring, the last answer, and the part of the buffer `room` that holds the events and nothing else; it starts where the buffer starts. Of

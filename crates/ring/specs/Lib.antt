@@ -1,5 +1,8 @@
--- What the code says in the terms of the rules (crate rules).
-pub mod Held
+-- What the code is in the terms of the rules (crate rules): the state that its ring is, the pieces that it stores, and what its calls give back.
+pub mod Ring
+pub mod Pieces
+pub mod Change
+pub mod Turn
 pub mod Replay
 pub mod Drained
 pub mod Code

@@ -5,7 +5,7 @@ use mathlib.Core.List.{List, [], _∷_}
 use Prim.Native.Nat.{ℕ}
 use lib.ListN.{length}
 use Rattle.rules.specs.Lists.{first}
-use Rattle.rules.specs.State.{sizeOf}
+use Rattle.rules.specs.State.{sizeOf, State}
 use Rattle.rules.specs.Shape.{sizeFits}
 use Rattle.rules.specs.SetUp.{freshRing, plainRing}
 use Rattle.rules.specs.Actions.{Decoded, decoded}
@@ -14,8 +14,7 @@ use Rattle.rules.specs.declared.state.Refusal.{Refusal}
 use Rattle.rules.specs.declared.state.Refusal.the-variants.{SetUp, Room}
 use Rattle.rules.specs.declared.state.Answer.{Answer}
 use Rattle.rules.specs.declared.state.Answer.the-variants.{Accepted, Refused}
-use Rattle.rules.specs.declared.state.State.{State}
-use Rattle.ring.specs.Held.{ringOf}
+use Rattle.ring.specs.Ring.{ringOf}
 use Rattle.ring.specs.declared.state.Replay.{Replay}
 
 -- ---- what a replay gives back

@@ -1,6 +1,6 @@
 // Actions as bytes, one after the other: what stands at a place.
 ghost use mathlib.Core.Path.{_≡_};
-ghost use Prim.Native.Nat.{_+_, _<_, _≤_};
+ghost use Prim.Native.Nat.{_+_, _<_};
 ghost use lib.ListN.{length};
 ghost use Rattle.rules.specs.Actions.{valueOf, beginAt, codedAt};
 use rules::actions::Coded;

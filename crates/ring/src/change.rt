@@ -3,8 +3,8 @@
 ghost use mathlib.Core.Path.{_≡_};
 ghost use Prim.Native.Nat.{_≤_};
 ghost use Rattle.rules.specs.Limits.{mostDepth, mostCount};
-ghost use Rattle.rules.specs.Pieces.{wordsStored, usedStored, numbersStored, valuesStored, StoresFit};
-ghost use Rattle.rules.specs.Change.{topAt, unchanged, beginChange, movedChange, writeChange, readChange, changeBy, MovedFits, WriteFits, ReadFits, ChangeFits};
+ghost use Rattle.ring.specs.Pieces.{wordsStored, usedStored, numbersStored, valuesStored, StoresFit};
+ghost use Rattle.ring.specs.Change.{topAt, unchanged, beginChange, movedChange, writeChange, readChange, changeBy, MovedFits, WriteFits, ReadFits, ChangeFits};
 use crate::begin::begin_verdict;
 use crate::cells::wanting;
 use crate::codes::answer_numbers;
@@ -22,9 +22,8 @@ use crate::pieces::stores_after;
 use crate::read::plan_reader;
 use crate::write::plan_phase;
 use crate::write::write_verdict;
-use rules::moves::Change;
 use rules::moves::Move;
-use rules::moves::Stores;
+use crate::pieces::Stores;
 use rules::moves::Verdict;
 use rules::state::Action;
 use rules::state::Answer;
@@ -33,6 +32,20 @@ use rules::state::Places;
 use rules::state::Reader;
 use rules::state::Size;
 use rules::state::Writer;
+use rules::codes::Numbers;
+
+// All that an action of any kind leaves: its answer, and each piece of the ring as it then is. A piece that stays is stored as it was.
+pub struct Change {
+    pub answer: Numbers,
+    // a place of the stack, and the record that it gets
+    pub at: usize,
+    pub writer: Writer,
+    pub counts: Counts,
+    pub places: Places,
+    pub depth: u32,
+    pub reader: Reader,
+    pub stores: Stores,
+}
 
 // The place of the record on top of the stack; the first place of an empty stack.
 pub(crate) fn top_at(depth: u32) -> usize

@@ -5,7 +5,7 @@ ghost use Prim.Native.Nat.{_≤_};
 ghost use lib.ListN.{length, take};
 ghost use Rattle.rules.specs.Drain.{drainRule};
 ghost use Rattle.ring.specs.Drained.{handedBack};
-ghost use Rattle.ring.specs.Held.{stateOf};
+ghost use Rattle.ring.specs.Ring.{stateOf};
 use crate::state::Ring;
 use rules::state::Last;
 

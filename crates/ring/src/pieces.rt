@@ -2,7 +2,7 @@
 ghost use mathlib.Core.Path.{_≡_};
 ghost use Prim.Native.Nat.{_≤_};
 ghost use Rattle.rules.specs.Limits.{mostPages, mostSlots, mostCount};
-ghost use Rattle.rules.specs.Pieces.{answerAfter, recordAfter, countsAfter, placesAfter, depthAfter, storesAfter, MoveFits, readAnswer, readHanded, readPlaces, readPhase, readStores, FetchFits, EventFits};
+ghost use Rattle.ring.specs.Pieces.{answerAfter, recordAfter, countsAfter, placesAfter, depthAfter, storesAfter, MoveFits, readAnswer, readHanded, readPlaces, readPhase, readStores, FetchFits, EventFits};
 use crate::cells::slot_index;
 use crate::cells::used_at;
 use crate::cells::wanting;
@@ -12,7 +12,6 @@ use crate::words::page_in;
 use crate::words::word_of;
 use rules::moves::Fetch;
 use rules::moves::Move;
-use rules::moves::Stores;
 use rules::state::Answer;
 use rules::state::Counts;
 use rules::state::PageNo;
@@ -23,6 +22,19 @@ use rules::state::ReadingNo;
 use rules::state::Size;
 use rules::state::Writer;
 use rules::state::WriterPhase;
+
+// The cells of the arrays that an action stores to. A slot is named by its place in the arrays of slots.
+pub enum Stores {
+    Same,
+    // a slot and the number that it gets; its page and the page's used
+    Number(usize, ReadingNo, PageNo, u32),
+    // a page and its word; another page, whose used becomes 0
+    Take(PageNo, u32, PageNo),
+    // a page and its word
+    Word(PageNo, u32),
+    // a slot and the value that it gets
+    Value(usize, u32),
+}
 
 // The answer; `taken` is the count before the step.
 pub(crate) fn answer_after(m: Move, taken: u64) -> Answer

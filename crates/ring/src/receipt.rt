@@ -3,7 +3,7 @@ ghost use mathlib.Core.Path.{_≡_};
 ghost use mathlib.Core.Bool.{true};
 ghost use Rattle.rules.specs.Shape.{countsFit};
 ghost use Rattle.rules.specs.Receipt.{receiptOf, refusedReceipt, receiptRule};
-ghost use Rattle.ring.specs.Held.{stateOf};
+ghost use Rattle.ring.specs.Ring.{stateOf};
 use crate::shape::counts_fit;
 use crate::shape::layout_fits;
 use crate::state::Ring;

@@ -7,7 +7,7 @@ ghost use Rattle.rules.specs.Actions.{decoded};
 ghost use Rattle.rules.specs.declared.state.Answer.the-variants.{Accepted};
 ghost use Rattle.rules.specs.Replay.{laidAt, answerNumbers, ranRoom, roomRule, Reached};
 ghost use Rattle.ring.specs.Replay.{replay, refusedReplay, ran, replayRule};
-ghost use Rattle.ring.specs.Held.{stateOf};
+ghost use Rattle.ring.specs.Ring.{stateOf};
 use crate::actions::action_at;
 use crate::change::change_by;
 use crate::change::store_numbers;

@@ -4,7 +4,7 @@ ghost use mathlib.Core.Path.{_≡_};
 ghost use Prim.Native.Nat.{_≤_};
 ghost use Rattle.rules.specs.Limits.{mostPages};
 ghost use Rattle.rules.specs.Shape.{sizeFits, placesFit, countsSmall, countsFit, pagesFit, heldFits, writerFits, readerFits, stackFits, wordFits, wordsFit, usedFit, layoutFits, inShape};
-ghost use Rattle.ring.specs.Held.{stateOf};
+ghost use Rattle.ring.specs.Ring.{stateOf};
 use crate::state::Ring;
 use crate::words::flag_in;
 use crate::words::page_in;

@@ -3,8 +3,9 @@
 ghost use mathlib.Core.Path.{_≡_};
 ghost use Prim.Native.Nat.{_<_, _≤_};
 ghost use Rattle.rules.specs.Limits.{mostSlots};
-ghost use Rattle.rules.specs.Turn.{smaller, eventCount, placesBefore, leftAfter, turnBy, CountFits, TurnFits};
+ghost use Rattle.ring.specs.Turn.{smaller, eventCount, placesBefore, leftAfter, turnBy, CountFits, TurnFits};
 use crate::cells::slot_index;
+use crate::pieces::Stores;
 use crate::pieces::read_answer;
 use crate::pieces::read_phase;
 use crate::pieces::read_places;
@@ -13,12 +14,26 @@ use crate::read::plan_reader;
 use crate::read::read_limit;
 use crate::state::Ring;
 use rules::moves::Fetch;
-use rules::moves::Turn;
 use rules::state::Counts;
 use rules::state::Last;
 use rules::state::Places;
 use rules::state::Reader;
 use rules::state::Size;
+
+// What the Reads of one turn of a drain leave: those of some Events that stand one after the other, or one Read of another kind.
+pub struct Turn {
+    // how many Events, and the place of the first one's slot
+    pub count: usize,
+    pub from: usize,
+    // the answer of the last Read
+    pub last: Last,
+    // how many Reads may still be made before the next Event
+    pub left: u32,
+    pub handed: u64,
+    pub places: Places,
+    pub reader: Reader,
+    pub stores: Stores,
+}
 
 fn smaller(a: usize, b: usize) -> usize
     ensures { λ r. ⌜ r ≡ smaller a b ⌝ }

@@ -1,13 +1,12 @@
 -- Begin.
 -- Assumes nothing.
 use Prim.Native.Nat.{ℕ, _+_}
-use Rattle.rules.specs.State.{writer, withBegun, withDepth, setRecord}
+use Rattle.rules.specs.State.{writer, withBegun, withDepth, setRecord, State}
 use Rattle.rules.specs.Answers.{Outcome, gives}
 use Rattle.rules.specs.Refusals.{beginVerdict, judged}
 use Rattle.rules.specs.Shape.{inShape}
 use Rattle.rules.specs.declared.state.WriterPhase.the-variants.{Want}
 use Rattle.rules.specs.declared.state.Answer.the-variants.{Begun}
-use Rattle.rules.specs.declared.state.State.{State}
 
 -- "Begin(v): begun + 1, a new record on top in phase WANT. Answer Begun(new depth)."
 abbrev pub begin : ℕ → State → Outcome

@@ -10,7 +10,7 @@ use lib.Dec.{eqb}
 use lib.ListN.{length, getD}
 use Rattle.rules.specs.Limits.{mostDepth, mostCount, header, update}
 use Rattle.rules.specs.Lists.{first}
-use Rattle.rules.specs.State.{wordAt, usedAt, numberAt, valueAt}
+use Rattle.rules.specs.State.{wordAt, usedAt, numberAt, valueAt, State}
 use Rattle.rules.specs.Words.{pageIn, flagIn}
 use Rattle.rules.specs.Shape.{inShape}
 use Rattle.rules.specs.SetUp.{freshRule}
@@ -23,7 +23,6 @@ use Rattle.rules.specs.declared.state.Action.{Action}
 use Rattle.rules.specs.declared.state.Action.the-variants.{Begin, Write, Read}
 use Rattle.rules.specs.declared.state.Answer.the-variants.{Accepted}
 use Rattle.rules.specs.declared.state.Receipt.{Receipt}
-use Rattle.rules.specs.declared.state.State.{State}
 
 -- ---- one, some, all, how many
 

@@ -3,23 +3,21 @@
 -- gives back of it is `drainedInto` and `laidOut`; in one call, with the part, `handedBack` (specs/Drained).
 -- Assumes nothing.
 use mathlib.Core.Path.{_≡_}
-use mathlib.Core.Bool.{Bool, cond}
+use mathlib.Core.Bool.{cond}
 use mathlib.Core.List.{List, [], _∷_}
 use Prim.Native.Nat.{ℕ, zero, suc, _+_, _*_, _^_, _≤_}
-use lib.ListN.{length, getD, replicate}
+use lib.ListN.{replicate}
 use Rattle.rules.specs.Limits.{mostInRow}
-use Rattle.rules.specs.Lists.{tabulate}
-use Rattle.rules.specs.State.{reading}
+use Rattle.rules.specs.State.{State}
 use Rattle.rules.specs.Answers.{Outcome}
 use Rattle.rules.specs.Shape.{inShape}
 use Rattle.rules.specs.Read.{readRule}
-use Rattle.rules.specs.Replay.{ringAfter, answersOf, over}
+use Rattle.rules.specs.Replay.{ringAfter, answersOf}
 use Rattle.rules.specs.declared.state.ReadingNo.{ReadingNo}
 use Rattle.rules.specs.declared.state.Refusal.the-variants.{Shape}
 use Rattle.rules.specs.declared.state.Answer.{Answer}
 use Rattle.rules.specs.declared.state.Answer.the-variants as answer
 use Rattle.rules.specs.declared.state.Action.the-variants.{Read}
-use Rattle.rules.specs.declared.state.State.{State}
 use Rattle.rules.specs.declared.state.Last.{Last}
 use Rattle.rules.specs.declared.state.Last.the-variants.{None, Given}
 
@@ -106,19 +104,6 @@ drained most (suc room) r last = row (drained most room) most r last
 -- Read, the same ring, last answer "none"."
 abbrev pub drainRule : State → ℕ → Drain
 drainRule r room = cond (inShape r) (drained mostInRow room r None) (noMore r (Given (answer.Refused Shape)))
-
--- ---- as the code makes it
-
--- the reading i slots after a slot, as it is stored, and so many of them
-abbrev pub eventAt : List ℕ → List ℕ → ℕ → ℕ → ℕ
-eventAt numbers values from i = eventNumber (reading (getD numbers (from + i) 0)) (getD values (from + i) 0)
-
-abbrev pub eventsFrom : List ℕ → List ℕ → ℕ → ℕ → List ℕ
-eventsFrom numbers values from count = tabulate count (eventAt numbers values from)
-
--- the last answer where the turns end: a Read that is still due is refused, since the ring is out of shape
-abbrev pub lastAfter : Bool → Last → Last
-lastAfter due last = cond due (Given (answer.Refused Shape)) last
 
 -- ---- the same as single actions
 

@@ -5,11 +5,11 @@ use mathlib.Core.Bool.{true, false, cond}
 use mathlib.Core.List.{List, [], _∷_, _++_}
 use Prim.Native.Nat.{ℕ, _+_, _-_}
 use lib.ListN.{length, getD, take}
-use Rattle.rules.specs.State.{top}
+use Rattle.rules.specs.State.{top, State}
 use Rattle.rules.specs.Words.{samePage}
 use Rattle.rules.specs.SetUp.{freshRule}
 use Rattle.rules.specs.Act.{act}
-use Rattle.rules.specs.Remember.{BegunWriter, Numbered, Marker, Unmarked, By, History, begunWriter, numbered, unbegun, withBegins, withWorking, withDroppers, withReadings, withEvents, withOverwritings, withMarker}
+use Rattle.rules.specs.Remember.{BegunWriter, Numbered, Marker, Unmarked, By, History, begunWriter, numbered, unbegun, history, withBegins, withWorking, withDroppers, withReadings, withEvents, withOverwritings, withMarker}
 use Rattle.rules.specs.declared.state.PageNo.{PageNo}
 use Rattle.rules.specs.declared.state.WriterPhase.{WriterPhase}
 use Rattle.rules.specs.declared.state.WriterPhase.the-variants as phase
@@ -17,7 +17,6 @@ use Rattle.rules.specs.declared.state.Action.{Action}
 use Rattle.rules.specs.declared.state.Action.the-variants.{Begin, Write, Read}
 use Rattle.rules.specs.declared.state.Answer.{Answer}
 use Rattle.rules.specs.declared.state.Answer.the-variants.{Accepted, Begun, Reserved, Looked, Dropped, Marked, Shared, Retry, Promoted, Standing, Cleared, Pushed, Passed, Filled, Committed, Pending, Event, Empty, Found, Busy, Prepared, Swapped, Missed, Refused}
-use Rattle.rules.specs.declared.state.State.{State}
 
 -- ---- the writers at work
 
@@ -120,7 +119,7 @@ pub record Run : Type 0 where
   pub past : History
 
 abbrev pub nothing : History
-nothing = record { begins = 0; working = []; droppers = []; readings = []; events = []; overwritings = []; marker = λ p. Unmarked }
+nothing = history 0 [] [] [] [] [] (λ p. Unmarked)
 
 -- "Each action gets the ring that the last one returned, and nobody else changes it meanwhile."
 abbrev pub next : Run → Action → Run

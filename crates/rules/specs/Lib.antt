@@ -1,25 +1,27 @@
 -- The rules of the ring, one file for each part. Read in this order.
+-- the ring and what is said of it
 pub mod Limits
 pub mod Lists
 pub mod State
 pub mod Answers
-pub mod Codes
 pub mod Refusals
 pub mod Words
 pub mod Shape
+-- the actions, and the receipt
 pub mod SetUp
 pub mod Begin
 pub mod Write
 pub mod Read
-pub mod Pieces
-pub mod Receipt
 pub mod Act
-pub mod Actions
-pub mod Change
-pub mod Replay
-pub mod Drain
-pub mod Turn
+pub mod Receipt
+-- the worked cases
+pub mod Cases
+-- demand 3
 pub mod Remember
 pub mod History
 pub mod Demand
-pub mod Cases
+-- the later requests: a recorded day (E1), a drain (E2)
+pub mod Codes
+pub mod Actions
+pub mod Replay
+pub mod Drain

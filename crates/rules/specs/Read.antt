@@ -7,7 +7,7 @@ use Prim.Native.Nat.{ℕ, _+_}
 use lib.Dec.{ltb}
 use Rattle.rules.specs.Limits.{normal, header}
 use Rattle.rules.specs.Lists.{first}
-use Rattle.rules.specs.State.{reading, wordAt, usedAt, numberAt, valueAt, withReaderPage, withPosition, withHanded, withReaderPhase, setWord, setUsed}
+use Rattle.rules.specs.State.{reading, wordAt, usedAt, numberAt, valueAt, withReaderPage, withPosition, withHanded, withReaderPhase, setWord, setUsed, State}
 use Rattle.rules.specs.Answers.{Outcome, gives}
 use Rattle.rules.specs.Refusals.{readVerdict, judged}
 use Rattle.rules.specs.Words.{pageIn, wordOf, readerOnCommit, links, findHeader}
@@ -19,7 +19,6 @@ use Rattle.rules.specs.declared.state.ReaderPhase.{ReaderPhase}
 use Rattle.rules.specs.declared.state.ReaderPhase.the-variants as phase
 use Rattle.rules.specs.declared.state.Answer.{Answer}
 use Rattle.rules.specs.declared.state.Answer.the-variants as answer
-use Rattle.rules.specs.declared.state.State.{State}
 use Rattle.rules.specs.declared.moves.Search.{Search}
 use Rattle.rules.specs.declared.moves.Search.the-variants.{At, Nowhere}
 use Rattle.rules.specs.declared.moves.Fetch.{Fetch}

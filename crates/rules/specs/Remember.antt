@@ -5,7 +5,7 @@ use mathlib.Core.Bool.{Bool}
 use mathlib.Core.List.{List}
 use Prim.Native.Nat.{ℕ}
 use Rattle.rules.specs.declared.state.PageNo.{PageNo}
-use Rattle.rules.specs.declared.state.State.{State}
+use Rattle.rules.specs.State.{State}
 
 -- a writer: how many Begins were accepted before its own, and the value in its Begin
 pub record BegunWriter : Type 0 where
@@ -52,7 +52,7 @@ pub record History : Type 0 where
   -- for each page, the writer of the last Marked that put an update mark in its word; it stays when the mark is cleared
   pub marker : PageNo → Marker
 
--- ---- makers, and what stands where nothing is remembered
+-- ---- one maker for each record, and what stands where nothing is remembered
 
 abbrev pub begunWriter : ℕ → ℕ → BegunWriter
 begunWriter nth value = record { nth = nth; value = value }
@@ -63,88 +63,37 @@ numbered number own committed = record { number = number; own = own; committed =
 abbrev pub unbegun : BegunWriter
 unbegun = begunWriter 0 0
 
+abbrev pub history : ℕ → List BegunWriter → List BegunWriter → List Numbered → List Given → List Overwriting → (PageNo → Marker) → History
+history begins working droppers readings events overwritings marker =
+    record {
+      begins = begins;
+      working = working;
+      droppers = droppers;
+      readings = readings;
+      events = events;
+      overwritings = overwritings;
+      marker = marker;
+    }
+
 -- ---- one setter for each part
 
 abbrev pub withBegins : ℕ → History → History
-withBegins x h =
-    record {
-      begins = x;
-      working = h .working;
-      droppers = h .droppers;
-      readings = h .readings;
-      events = h .events;
-      overwritings = h .overwritings;
-      marker = h .marker;
-    }
+withBegins x h = history x (h .working) (h .droppers) (h .readings) (h .events) (h .overwritings) (h .marker)
 
 abbrev pub withWorking : List BegunWriter → History → History
-withWorking x h =
-    record {
-      begins = h .begins;
-      working = x;
-      droppers = h .droppers;
-      readings = h .readings;
-      events = h .events;
-      overwritings = h .overwritings;
-      marker = h .marker;
-    }
+withWorking x h = history (h .begins) x (h .droppers) (h .readings) (h .events) (h .overwritings) (h .marker)
 
 abbrev pub withDroppers : List BegunWriter → History → History
-withDroppers x h =
-    record {
-      begins = h .begins;
-      working = h .working;
-      droppers = x;
-      readings = h .readings;
-      events = h .events;
-      overwritings = h .overwritings;
-      marker = h .marker;
-    }
+withDroppers x h = history (h .begins) (h .working) x (h .readings) (h .events) (h .overwritings) (h .marker)
 
 abbrev pub withReadings : List Numbered → History → History
-withReadings x h =
-    record {
-      begins = h .begins;
-      working = h .working;
-      droppers = h .droppers;
-      readings = x;
-      events = h .events;
-      overwritings = h .overwritings;
-      marker = h .marker;
-    }
+withReadings x h = history (h .begins) (h .working) (h .droppers) x (h .events) (h .overwritings) (h .marker)
 
 abbrev pub withEvents : List Given → History → History
-withEvents x h =
-    record {
-      begins = h .begins;
-      working = h .working;
-      droppers = h .droppers;
-      readings = h .readings;
-      events = x;
-      overwritings = h .overwritings;
-      marker = h .marker;
-    }
+withEvents x h = history (h .begins) (h .working) (h .droppers) (h .readings) x (h .overwritings) (h .marker)
 
 abbrev pub withOverwritings : List Overwriting → History → History
-withOverwritings x h =
-    record {
-      begins = h .begins;
-      working = h .working;
-      droppers = h .droppers;
-      readings = h .readings;
-      events = h .events;
-      overwritings = x;
-      marker = h .marker;
-    }
+withOverwritings x h = history (h .begins) (h .working) (h .droppers) (h .readings) (h .events) x (h .marker)
 
 abbrev pub withMarker : (PageNo → Marker) → History → History
-withMarker x h =
-    record {
-      begins = h .begins;
-      working = h .working;
-      droppers = h .droppers;
-      readings = h .readings;
-      events = h .events;
-      overwritings = h .overwritings;
-      marker = x;
-    }
+withMarker x h = history (h .begins) (h .working) (h .droppers) (h .readings) (h .events) (h .overwritings) x

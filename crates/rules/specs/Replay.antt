@@ -1,26 +1,22 @@
 -- Replay: actions that stand one after the other in some bytes, made one by one on the ring of a set-up. Request E1: "Replay equals the actions one by one".
 -- Assumes nothing.
 use mathlib.Core.Path.{_≡_}
-use mathlib.Core.Bool.{Bool, true, cond, not}
+use mathlib.Core.Bool.{Bool, true, not}
 use mathlib.Core.List.{List, [], _∷_, _++_}
-use Prim.Native.Nat.{ℕ, _+_, _*_, _/_}
+use Prim.Native.Nat.{ℕ, _+_, _/_}
 use lib.Dec.{ltb}
 use lib.ListN.{length, drop, set}
 use Rattle.rules.specs.Lists.{first}
-use Rattle.rules.specs.State.{sizeOf}
+use Rattle.rules.specs.State.{sizeOf, State}
 use Rattle.rules.specs.Codes.{numbersOf}
 use Rattle.rules.specs.Shape.{sizeFits}
-use Rattle.rules.specs.SetUp.{freshRing, plainRing}
+use Rattle.rules.specs.SetUp.{freshRing}
 use Rattle.rules.specs.Act.{act}
 use Rattle.rules.specs.Actions.{Decoded, decoded}
 use Rattle.rules.specs.declared.codes.Numbers.{Numbers}
 use Rattle.rules.specs.declared.state.Size.{Size}
-use Rattle.rules.specs.declared.state.Refusal.{Refusal}
-use Rattle.rules.specs.declared.state.Refusal.the-variants.{SetUp, Room}
 use Rattle.rules.specs.declared.state.Answer.{Answer}
-use Rattle.rules.specs.declared.state.Answer.the-variants.{Accepted, Refused}
 use Rattle.rules.specs.declared.state.Action.{Action}
-use Rattle.rules.specs.declared.state.State.{State}
 
 -- ---- the actions one by one, each on the ring that the last one returned. The ring is that of the run that demand 3 speaks of (`after-now`, proofs/runs/Reached)
 

@@ -6,14 +6,13 @@ use Prim.Native.Nat.{ℕ, _+_}
 use lib.Dec.{eqb, ltb}
 use Rattle.rules.specs.Limits.{pageRoom, normal, header, plainPages, plainSlots, plainMode}
 use Rattle.rules.specs.Lists.{tabulate}
-use Rattle.rules.specs.State.{page, sizeOf, withWords, withReaderPage, blank}
+use Rattle.rules.specs.State.{page, sizeOf, withWords, withReaderPage, blank, State}
 use Rattle.rules.specs.Answers.{Outcome, gives}
 use Rattle.rules.specs.Refusals.{setUpVerdict, judged}
 use Rattle.rules.specs.Words.{wordOf}
 use Rattle.rules.specs.Shape.{sizeFits}
 use Rattle.rules.specs.declared.state.Size.{Size}
 use Rattle.rules.specs.declared.state.Answer.the-variants.{Accepted}
-use Rattle.rules.specs.declared.state.State.{State}
 
 -- "page i links to i+1, page N−1 to 0 ...", "Reader page N links to 0 ...", "Words of pages above N are 0."
 abbrev pub freshNext : ℕ → ℕ → ℕ

@@ -6,7 +6,7 @@ use Prim.Native.Nat.{ℕ, _+_}
 use lib.Dec.{eqb, leb, ltb}
 use Rattle.rules.specs.Limits.{leastPages, mostPages, leastSlots, mostSlots, mostDepth, mostCount, stop, bothFlags}
 use Rattle.rules.specs.Lists.{every, all, allBelow}
-use Rattle.rules.specs.State.{page, wordAt, usedAt, recordAt}
+use Rattle.rules.specs.State.{page, wordAt, usedAt, recordAt, State}
 use Rattle.rules.specs.Words.{pageIn, flagIn}
 use Rattle.rules.specs.declared.state.PageNo.{PageNo}
 use Rattle.rules.specs.declared.state.Size.{Size}
@@ -18,7 +18,6 @@ use Rattle.rules.specs.declared.state.Writer.{Writer}
 use Rattle.rules.specs.declared.state.ReaderPhase.{ReaderPhase}
 use Rattle.rules.specs.declared.state.ReaderPhase.the-variants.{Idle, Found, Ready}
 use Rattle.rules.specs.declared.state.Reader.{Reader}
-use Rattle.rules.specs.declared.state.State.{State}
 
 -- "N, S and mode as above"
 abbrev pub sizeTests : Size → List Bool

@@ -1,5 +1,5 @@
--- The parts of a ring: one setter for each field that an action changes, what stands where, and a ring of zeros. The only record literals of a
--- ring, its places and its counts are here: a new field is added to these and to little else. "Parts of a ring".
+-- The parts of a ring: its state, one maker for each record, one setter for each field that an action changes, what stands where, and a ring of
+-- zeros. The only record literals of a state, its places and its counts are the makers here. "Parts of a ring".
 -- Assumes nothing.
 use mathlib.Core.List.{List}
 use Prim.Native.Nat.{ℕ, _+_, _-_, _*_}
@@ -16,9 +16,28 @@ use Rattle.rules.specs.declared.state.Writer.{Writer}
 use Rattle.rules.specs.declared.state.ReaderPhase.{ReaderPhase}
 use Rattle.rules.specs.declared.state.ReaderPhase.the-variants.{Idle}
 use Rattle.rules.specs.declared.state.Reader.{Reader}
-use Rattle.rules.specs.declared.state.State.{State}
 
--- ---- numbers of their own types, and a writer's record
+-- ---- the state
+
+-- A ring as the rules see it. It has no memory of its own: code that holds one says which state it is, as `stateOf` does for the ring of crate ring.
+pub record State : Type 0 where
+  pub size : Size
+  -- reader page, tail page, commit page with the commit index, and the read position
+  pub places : Places
+  pub counts : Counts
+  -- how many records of the stack are in use
+  pub depth : ℕ
+  pub reader : Reader
+  -- writer records, the outermost first
+  pub stack : List Writer
+  -- for each page, its link word, and how many of its slots are reserved
+  pub words : List ℕ
+  pub used : List ℕ
+  -- for each slot, a reading's number and its value; slot s of page p stands at p * S + s
+  pub numbers : List ℕ
+  pub values : List ℕ
+
+-- ---- one maker for each record: a new field is added to its maker and to the setters below
 
 abbrev pub page : ℕ → PageNo
 page n = record { 0 = n }
@@ -36,258 +55,89 @@ writer v phase = record { value = v; phase = phase }
 abbrev pub noWriter : Writer
 noWriter = writer 0 Want
 
--- ---- one setter for each field of places, counts and ring
+abbrev pub placesOf : PageNo → PageNo → PageNo → ℕ → ℕ → Places
+placesOf reader tail commit index position = record { reader = reader; tail = tail; commit = commit; index = index; position = position }
+
+abbrev pub countsOf : ℕ → ℕ → ℕ → ℕ → ℕ → ℕ → Counts
+countsOf begun taken committed handed overwritten dropped =
+    record { begun = begun; taken = taken; committed = committed; handed = handed; overwritten = overwritten; dropped = dropped }
+
+abbrev pub stateWith : Size → Places → Counts → ℕ → Reader → List Writer → List ℕ → List ℕ → List ℕ → List ℕ → State
+stateWith size places counts depth reader stack words used numbers values =
+    record {
+      size = size;
+      places = places;
+      counts = counts;
+      depth = depth;
+      reader = reader;
+      stack = stack;
+      words = words;
+      used = used;
+      numbers = numbers;
+      values = values;
+    }
+
+-- ---- one setter for each field of places, counts and state
 
 abbrev pub placesReader : PageNo → Places → Places
-placesReader x s =
-    record {
-      reader = x;
-      tail = s .tail;
-      commit = s .commit;
-      index = s .index;
-      position = s .position;
-    }
+placesReader x p = placesOf x (p .tail) (p .commit) (p .index) (p .position)
 
 abbrev pub placesTail : PageNo → Places → Places
-placesTail x s =
-    record {
-      reader = s .reader;
-      tail = x;
-      commit = s .commit;
-      index = s .index;
-      position = s .position;
-    }
+placesTail x p = placesOf (p .reader) x (p .commit) (p .index) (p .position)
 
 abbrev pub placesCommit : PageNo → Places → Places
-placesCommit x s =
-    record {
-      reader = s .reader;
-      tail = s .tail;
-      commit = x;
-      index = s .index;
-      position = s .position;
-    }
+placesCommit x p = placesOf (p .reader) (p .tail) x (p .index) (p .position)
 
 abbrev pub placesIndex : ℕ → Places → Places
-placesIndex x s =
-    record {
-      reader = s .reader;
-      tail = s .tail;
-      commit = s .commit;
-      index = x;
-      position = s .position;
-    }
+placesIndex x p = placesOf (p .reader) (p .tail) (p .commit) x (p .position)
 
 abbrev pub placesPosition : ℕ → Places → Places
-placesPosition x s =
-    record {
-      reader = s .reader;
-      tail = s .tail;
-      commit = s .commit;
-      index = s .index;
-      position = x;
-    }
+placesPosition x p = placesOf (p .reader) (p .tail) (p .commit) (p .index) x
 
 abbrev pub countsBegun : ℕ → Counts → Counts
-countsBegun x s =
-    record {
-      begun = x;
-      taken = s .taken;
-      committed = s .committed;
-      handed = s .handed;
-      overwritten = s .overwritten;
-      dropped = s .dropped;
-    }
+countsBegun x c = countsOf x (c .taken) (c .committed) (c .handed) (c .overwritten) (c .dropped)
 
 abbrev pub countsTaken : ℕ → Counts → Counts
-countsTaken x s =
-    record {
-      begun = s .begun;
-      taken = x;
-      committed = s .committed;
-      handed = s .handed;
-      overwritten = s .overwritten;
-      dropped = s .dropped;
-    }
+countsTaken x c = countsOf (c .begun) x (c .committed) (c .handed) (c .overwritten) (c .dropped)
 
 abbrev pub countsCommitted : ℕ → Counts → Counts
-countsCommitted x s =
-    record {
-      begun = s .begun;
-      taken = s .taken;
-      committed = x;
-      handed = s .handed;
-      overwritten = s .overwritten;
-      dropped = s .dropped;
-    }
+countsCommitted x c = countsOf (c .begun) (c .taken) x (c .handed) (c .overwritten) (c .dropped)
 
 abbrev pub countsHanded : ℕ → Counts → Counts
-countsHanded x s =
-    record {
-      begun = s .begun;
-      taken = s .taken;
-      committed = s .committed;
-      handed = x;
-      overwritten = s .overwritten;
-      dropped = s .dropped;
-    }
+countsHanded x c = countsOf (c .begun) (c .taken) (c .committed) x (c .overwritten) (c .dropped)
 
 abbrev pub countsOverwritten : ℕ → Counts → Counts
-countsOverwritten x s =
-    record {
-      begun = s .begun;
-      taken = s .taken;
-      committed = s .committed;
-      handed = s .handed;
-      overwritten = x;
-      dropped = s .dropped;
-    }
+countsOverwritten x c = countsOf (c .begun) (c .taken) (c .committed) (c .handed) x (c .dropped)
 
 abbrev pub countsDropped : ℕ → Counts → Counts
-countsDropped x s =
-    record {
-      begun = s .begun;
-      taken = s .taken;
-      committed = s .committed;
-      handed = s .handed;
-      overwritten = s .overwritten;
-      dropped = x;
-    }
+countsDropped x c = countsOf (c .begun) (c .taken) (c .committed) (c .handed) (c .overwritten) x
 
 abbrev pub withPlaces : Places → State → State
-withPlaces x s =
-    record {
-      size = s .size;
-      places = x;
-      counts = s .counts;
-      depth = s .depth;
-      reader = s .reader;
-      stack = s .stack;
-      words = s .words;
-      used = s .used;
-      numbers = s .numbers;
-      values = s .values;
-    }
+withPlaces x s = stateWith (s .size) x (s .counts) (s .depth) (s .reader) (s .stack) (s .words) (s .used) (s .numbers) (s .values)
 
 abbrev pub withCounts : Counts → State → State
-withCounts x s =
-    record {
-      size = s .size;
-      places = s .places;
-      counts = x;
-      depth = s .depth;
-      reader = s .reader;
-      stack = s .stack;
-      words = s .words;
-      used = s .used;
-      numbers = s .numbers;
-      values = s .values;
-    }
+withCounts x s = stateWith (s .size) (s .places) x (s .depth) (s .reader) (s .stack) (s .words) (s .used) (s .numbers) (s .values)
 
 abbrev pub withDepth : ℕ → State → State
-withDepth x s =
-    record {
-      size = s .size;
-      places = s .places;
-      counts = s .counts;
-      depth = x;
-      reader = s .reader;
-      stack = s .stack;
-      words = s .words;
-      used = s .used;
-      numbers = s .numbers;
-      values = s .values;
-    }
+withDepth x s = stateWith (s .size) (s .places) (s .counts) x (s .reader) (s .stack) (s .words) (s .used) (s .numbers) (s .values)
 
 abbrev pub withReader : Reader → State → State
-withReader x s =
-    record {
-      size = s .size;
-      places = s .places;
-      counts = s .counts;
-      depth = s .depth;
-      reader = x;
-      stack = s .stack;
-      words = s .words;
-      used = s .used;
-      numbers = s .numbers;
-      values = s .values;
-    }
+withReader x s = stateWith (s .size) (s .places) (s .counts) (s .depth) x (s .stack) (s .words) (s .used) (s .numbers) (s .values)
 
 abbrev pub withStack : List Writer → State → State
-withStack x s =
-    record {
-      size = s .size;
-      places = s .places;
-      counts = s .counts;
-      depth = s .depth;
-      reader = s .reader;
-      stack = x;
-      words = s .words;
-      used = s .used;
-      numbers = s .numbers;
-      values = s .values;
-    }
+withStack x s = stateWith (s .size) (s .places) (s .counts) (s .depth) (s .reader) x (s .words) (s .used) (s .numbers) (s .values)
 
 abbrev pub withWords : List ℕ → State → State
-withWords x s =
-    record {
-      size = s .size;
-      places = s .places;
-      counts = s .counts;
-      depth = s .depth;
-      reader = s .reader;
-      stack = s .stack;
-      words = x;
-      used = s .used;
-      numbers = s .numbers;
-      values = s .values;
-    }
+withWords x s = stateWith (s .size) (s .places) (s .counts) (s .depth) (s .reader) (s .stack) x (s .used) (s .numbers) (s .values)
 
 abbrev pub withUsed : List ℕ → State → State
-withUsed x s =
-    record {
-      size = s .size;
-      places = s .places;
-      counts = s .counts;
-      depth = s .depth;
-      reader = s .reader;
-      stack = s .stack;
-      words = s .words;
-      used = x;
-      numbers = s .numbers;
-      values = s .values;
-    }
+withUsed x s = stateWith (s .size) (s .places) (s .counts) (s .depth) (s .reader) (s .stack) (s .words) x (s .numbers) (s .values)
 
 abbrev pub withNumbers : List ℕ → State → State
-withNumbers x s =
-    record {
-      size = s .size;
-      places = s .places;
-      counts = s .counts;
-      depth = s .depth;
-      reader = s .reader;
-      stack = s .stack;
-      words = s .words;
-      used = s .used;
-      numbers = x;
-      values = s .values;
-    }
+withNumbers x s = stateWith (s .size) (s .places) (s .counts) (s .depth) (s .reader) (s .stack) (s .words) (s .used) x (s .values)
 
 abbrev pub withValues : List ℕ → State → State
-withValues x s =
-    record {
-      size = s .size;
-      places = s .places;
-      counts = s .counts;
-      depth = s .depth;
-      reader = s .reader;
-      stack = s .stack;
-      words = s .words;
-      used = s .used;
-      numbers = s .numbers;
-      values = x;
-    }
+withValues x s = stateWith (s .size) (s .places) (s .counts) (s .depth) (s .reader) (s .stack) (s .words) (s .used) (s .numbers) x
 
 -- ---- the same, as changes of the whole ring
 
@@ -381,15 +231,8 @@ pop r = withDepth (r .depth - 1) (setRecord (r .depth - 1) noWriter r)
 
 abbrev pub blank : Size → State
 blank size =
-    record {
-      size = size;
-      places = record { reader = page 0; tail = page 0; commit = page 0; index = 0; position = 0 };
-      counts = record { begun = 0; taken = 0; committed = 0; handed = 0; overwritten = 0; dropped = 0 };
-      depth = 0;
-      reader = record { phase = Idle };
-      stack = replicate mostDepth noWriter;
-      words = replicate pageRoom 0;
-      used = replicate pageRoom 0;
-      numbers = replicate slotRoom 0;
-      values = replicate slotRoom 0;
-    }
+    stateWith size (placesOf (page 0) (page 0) (page 0) 0 0) (countsOf 0 0 0 0 0 0) 0 (record { phase = Idle }) (replicate mostDepth noWriter)
+    (replicate pageRoom 0)
+    (replicate pageRoom 0)
+    (replicate slotRoom 0)
+    (replicate slotRoom 0)

@@ -7,7 +7,7 @@ use Prim.Native.Nat.{ℕ, _+_}
 use lib.Dec.{eqb, ltb}
 use Rattle.rules.specs.Limits.{stop, normal, header, update}
 use Rattle.rules.specs.Lists.{first}
-use Rattle.rules.specs.State.{reading, wordAt, usedAt, top, withTail, withCommitPage, withCommitIndex, withTaken, withCommitted, withOverwritten, withDropped, setWord, setUsed, setNumber, setValue, setPhase, pop}
+use Rattle.rules.specs.State.{reading, wordAt, usedAt, top, withTail, withCommitPage, withCommitIndex, withTaken, withCommitted, withOverwritten, withDropped, setWord, setUsed, setNumber, setValue, setPhase, pop, State}
 use Rattle.rules.specs.Answers.{Outcome, gives}
 use Rattle.rules.specs.Refusals.{writeVerdict, judged}
 use Rattle.rules.specs.Words.{pageIn, flagIn, wordOf, samePage, readerOnCommit, links, findHeader}
@@ -18,7 +18,6 @@ use Rattle.rules.specs.declared.state.Places.{Places}
 use Rattle.rules.specs.declared.state.WriterPhase.{WriterPhase}
 use Rattle.rules.specs.declared.state.WriterPhase.the-variants as phase
 use Rattle.rules.specs.declared.state.Answer.the-variants as answer
-use Rattle.rules.specs.declared.state.State.{State}
 use Rattle.rules.specs.declared.moves.Search.{Search}
 use Rattle.rules.specs.declared.moves.Search.the-variants.{At, Nowhere}
 use Rattle.rules.specs.declared.moves.Move.{Move}

@@ -68,25 +68,6 @@ pub struct Counts {
     pub dropped: u64,
 }
 
-// The ring. Arrays have room for 17 pages of 16 slots; slot s of page p stands at p * S + s.
-pub struct State {
-    pub size: Size,
-    pub places: Places,
-    pub counts: Counts,
-    // how many records of the stack are in use
-    pub depth: u32,
-    pub reader: Reader,
-    // writer records, the outermost first
-    pub stack: [Writer; 4],
-    // for each page, its link word: 4 * (next page) + flag
-    pub words: [u32; 17],
-    // for each page, how many of its slots are reserved
-    pub used: [u32; 17],
-    // for each slot, a reading's number and its value
-    pub numbers: [u32; 272],
-    pub values: [u32; 272],
-}
-
 // Why an action, a receipt, a set-up or a trace is refused.
 pub enum Refusal {
     Shape,

@@ -13,7 +13,7 @@ use Rattle.rules.specs.Actions.{beginCode, writeCode, readCode, beginLength, va
 use Rattle.rules.specs.declared.state.Action.{Action}
 use Rattle.rules.specs.declared.state.Action.the-variants.{Begin, Write, Read}
 use Rattle.rules.specs.declared.actions.Coded.the-variants.{Whole, End}
-use Rattle.ring.proofs.actions.Laws.{decoded-whole, decoded-stops}
+use Rattle.rules.proofs.actions.Laws.{decoded-whole, decoded-stops}
 use Rattle.trace.specs.Trace.{ValueFits, ValuesFit}
 
 -- ---- one action

@@ -7,8 +7,8 @@ use mathlib.Core.List.{List}
 use Prim.Native.Nat.{ℕ, _+_}
 use lib.Dec.{eqb, ltb}
 use lib.ListN.{length, drop}
-use Rattle.ring.specs.Held.{stateOf}
-use Rattle.rules.specs.State.{sizeOf}
+use Rattle.ring.specs.Ring.{stateOf}
+use Rattle.rules.specs.State.{sizeOf, State}
 use Rattle.rules.specs.SetUp.{freshRing}
 use Rattle.rules.specs.Actions.{Decoded, codedAt, decodedFrom}
 use Rattle.rules.specs.Replay.{ringAfter, ranRoom, roomFits}
@@ -17,7 +17,6 @@ use Rattle.rules.specs.declared.state.Refusal.the-variants as refusal
 use Rattle.rules.specs.declared.state.Answer.{Answer}
 use Rattle.rules.specs.declared.state.Answer.the-variants as answer
 use Rattle.ring.specs.declared.state.Replay.{Replay}
-use Rattle.rules.specs.declared.state.State.{State}
 use Rattle.rules.specs.declared.actions.Coded.the-variants.{Broken}
 use Rattle.trace.specs.Header.{headerOf}
 use Rattle.trace.specs.declared.parts.Header.{Header}

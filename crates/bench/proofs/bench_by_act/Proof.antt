@@ -3,7 +3,7 @@ use mathlib.Core.Path.{_≡_, ap, _∙_}
 use Prim.Native.Nat.{_-_, _≤_}
 use native.Mathlib.Omega.{arith}
 use borrow.Author.Needs.{needs}
-use Rattle.ring.specs.Held.{stateOf, outcome}
+use Rattle.ring.specs.Ring.{stateOf, outcome}
 use Rattle.rules.specs.Act.{act}
 use Rattle.bench.specs.Loop.{ran}
 use Rattle.bench.proofs.Loop.{ran-next, handed-at}

@@ -4,7 +4,7 @@ use Prim.Native.Nat.{_-_, _≤_}
 use native.Mathlib.Omega.{arith}
 use borrow.Author.Needs.{needs}
 use borrow.Author.Tests.{lt-ltb, le-ltb}
-use Rattle.ring.specs.Held.{outcome}
+use Rattle.ring.specs.Ring.{outcome}
 use Rattle.bench.specs.Loop.{ran}
 use Rattle.bench.proofs.Loop.{ran-next, handed-at}
 use Rattle.bench.proofs.bench_by_methods.Statement.{statement}

@@ -5,7 +5,7 @@ use native.Mathlib.Omega.{arith}
 use borrow.Author.Needs.{needs}
 use lib.ListN.{length}
 use Rattle.rules.specs.Drain.{drainRule}
-use Rattle.ring.specs.Held.{stateOf, drainedInto, laidOut}
+use Rattle.ring.specs.Ring.{stateOf, drainedInto, laidOut}
 use Rattle.ring.specs.declared.state.DrainedInto.{DrainedInto}
 use Rattle.ring.specs.declared.state.Replay.{Replay}
 use Rattle.bench.proofs.Drain.{again}

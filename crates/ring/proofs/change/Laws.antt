@@ -1,16 +1,16 @@
 -- The pieces that an action of any kind leaves, stored, are the action: `change-acts`. And a ring in shape has what the code asks of its pieces. Each by the action,
 -- from the laws of Write and Read; a record, a count or a cell that stays is stored as it was. Assumes nothing.
-use mathlib.Core.Path.{_≡_, refl, sym, ap, _∙_}
+use mathlib.Core.Path.{_≡_, refl, sym, ap}
 use mathlib.Core.Bool.{true}
 use mathlib.Core.List.{List}
-use Prim.Native.Nat.{ℕ, _-_, _≤_, _<_}
+use Prim.Native.Nat.{ℕ, _-_, _<_}
 use native.Mathlib.Omega.{arith}
 use borrow.Author.Tests.{eqb-false}
 use lib.Dec.{eqb}
 use lib.ListN.{set}
 use lib.Seq.{set-getD}
 use Rattle.rules.specs.Limits.{mostDepth, mostCount}
-use Rattle.rules.specs.State.{noWriter, withStack, top}
+use Rattle.rules.specs.State.{noWriter, withStack, top, State}
 use Rattle.rules.specs.Answers.{Outcome}
 use Rattle.rules.specs.Codes.{numbersOf}
 use Rattle.rules.specs.Refusals.{beginVerdict, writeVerdict, judged}
@@ -19,21 +19,20 @@ use Rattle.rules.specs.Begin.{begin}
 use Rattle.rules.specs.Write.{moved, planWrite}
 use Rattle.rules.specs.Read.{fetched, planRead}
 use Rattle.rules.specs.Act.{act}
-use Rattle.rules.specs.Pieces.{StoresFit}
-use Rattle.rules.specs.Change.{judgedChange, begunChange, movedChange, fetchedChange, changeOf, changed, ChangeFits}
+use Rattle.ring.specs.Pieces.{StoresFit}
+use Rattle.ring.specs.Change.{judgedChange, begunChange, movedChange, fetchedChange, changeOf, changed, ChangeFits}
 use Rattle.rules.specs.declared.state.Writer.{Writer}
 use Rattle.rules.specs.declared.state.Refusal.{Refusal}
 use Rattle.rules.specs.declared.state.Refusal.the-variants.{Depth, Nobody, Worn}
 use Rattle.rules.specs.declared.state.Action.{Action}
 use Rattle.rules.specs.declared.state.Action.the-variants.{Begin, Write, Read}
-use Rattle.rules.specs.declared.state.State.{State}
 use Rattle.rules.specs.declared.moves.Verdict.{Verdict}
 use Rattle.rules.specs.declared.moves.Verdict.the-variants.{Allowed, Refused}
 use Rattle.rules.specs.declared.moves.Move.{Move}
 use Rattle.rules.specs.declared.moves.Move.the-variants.{Become, Reserve, Drop, Mark, Promote, Clear, Push, Fill, Pend, Commit}
 use Rattle.rules.specs.declared.moves.Fetch.{Fetch}
 use Rattle.rules.specs.declared.moves.Fetch.the-variants as fetch
-use Rattle.rules.specs.declared.moves.Change.{Change}
+use Rattle.ring.specs.declared.change.Change.{Change}
 use Rattle.rules.proofs.Lists.{by-cond}
 use Rattle.rules.proofs.shape.Laws.{InShape}
 use Rattle.ring.proofs.write.Laws.{top-fits, plan-fits}

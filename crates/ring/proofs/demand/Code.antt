@@ -6,7 +6,7 @@ use mathlib.Core.Path.{_≡_, refl, sym, ap, _∙_, subst}
 use mathlib.Core.List.{List, [], _∷_}
 use Prim.Native.Nat.{ℕ}
 use Rattle.rules.specs.Answers.{Outcome}
-use Rattle.ring.specs.Held.{stateOf, ringOf, outcome}
+use Rattle.ring.specs.Ring.{stateOf, ringOf, outcome}
 use Rattle.rules.specs.History.{Run, after, runOf, nothing, recall, valueIn}
 use Rattle.rules.specs.Demand.{Claim, CompleteClaim, Whole}
 use Rattle.ring.specs.Code.{Made, asked, runTold, runFrom, Follow, CodeDemand3}

@@ -4,9 +4,9 @@
 use mathlib.Core.Path.{_≡_, refl, ap}
 use mathlib.Core.List.{List, [], _∷_}
 use Prim.Native.Nat.{ℕ}
-use Rattle.rules.specs.State.{sizeOf}
+use Rattle.rules.specs.State.{sizeOf, State}
 use Rattle.rules.specs.Answers.{Outcome, gives}
-use Rattle.ring.specs.Held.{ringOf, outcome}
+use Rattle.ring.specs.Ring.{ringOf, outcome}
 use Rattle.rules.specs.Refusals.{beginVerdict, writeVerdict, readVerdict, setUpVerdict, judged}
 use Rattle.rules.specs.Shape.{sizeFits, inShape}
 use Rattle.rules.specs.SetUp.{freshRing, plainRing, freshRule}
@@ -19,7 +19,6 @@ use Rattle.ring.specs.Code.{Made, asked, runFrom, Follow, CodeRuns}
 use Rattle.rules.specs.declared.state.Action.{Action}
 use Rattle.rules.specs.declared.state.Action.the-variants.{Begin, Write, Read}
 use Rattle.rules.specs.declared.state.Answer.the-variants.{Accepted}
-use Rattle.rules.specs.declared.state.State.{State}
 use Rattle.ring.specs.declared.state.Step.{Step}
 use Rattle.rules.specs.declared.moves.Verdict.{Verdict}
 use Rattle.rules.specs.declared.moves.Verdict.the-variants.{Allowed, Refused}

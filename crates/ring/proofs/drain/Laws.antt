@@ -11,18 +11,17 @@ use borrow.Author.Tests.{leb-false, ltb-true, ltb-false}
 use lib.Dec.{leb, ltb}
 use lib.ListN.{length, length-append}
 use lib.Seq.{sets}
-use Rattle.rules.specs.State.{withHanded}
+use Rattle.rules.specs.State.{withHanded, State}
 use Rattle.rules.specs.Shape.{inShape}
 use Rattle.rules.specs.Replay.{over}
 use Rattle.rules.specs.Limits.{mostInRow}
-use Rattle.rules.specs.Drain.{Drain, noMore, drained, eventsFrom, lastAfter}
-use Rattle.ring.specs.Held.{ringOf, drainedInto, laidOut}
-use Rattle.rules.specs.Turn.{turnOf, turned}
-use Rattle.rules.specs.declared.state.State.{State}
+use Rattle.rules.specs.Drain.{Drain, noMore, drained}
+use Rattle.ring.specs.Turn.{eventsFrom, lastAfter, turnOf, turned}
+use Rattle.ring.specs.Ring.{ringOf, drainedInto, laidOut}
 use Rattle.rules.specs.declared.state.Last.{Last}
 use Rattle.rules.specs.declared.state.Last.the-variants.{None}
 use Rattle.ring.specs.declared.state.DrainedInto.{DrainedInto}
-use Rattle.rules.specs.declared.moves.Turn.{Turn}
+use Rattle.ring.specs.declared.turn.Turn.{Turn}
 use Rattle.rules.proofs.Lists.{by-bool, length-tabulate}
 use Rattle.rules.proofs.shape.Laws.{in-shape}
 use Rattle.rules.proofs.read.Kept.{parts, reshaped}

@@ -19,11 +19,11 @@ use Rattle.rules.specs.declared.moves.Move.the-variants.{Become, Reserve, Drop,
 use Rattle.rules.specs.declared.moves.Fetch.{Fetch}
 use Rattle.rules.specs.declared.moves.Fetch.the-variants as fetch
 use Rattle.rules.specs.declared.state.ReadingNo.{ReadingNo}
-use Rattle.rules.specs.declared.moves.Stores.{Stores}
-use Rattle.rules.specs.declared.moves.Stores.the-variants as stores
+use Rattle.ring.specs.declared.pieces.Stores.{Stores}
+use Rattle.ring.specs.declared.pieces.Stores.the-variants as stores
 use Rattle.rules.proofs.moves.Move as move-type
 use Rattle.rules.proofs.moves.Fetch as fetch-type
-use Rattle.rules.proofs.moves.Stores as stores-type
+use Rattle.ring.proofs.pieces.Stores as stores-type
 
 pub refused-is-not-allowed : (why : Refusal) → Refused why ≡ Allowed → ⊥
 refused-is-not-allowed why h = let z : _≡_ {A = ℕ} 0 1 = cc in omega arith

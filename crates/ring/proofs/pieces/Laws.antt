@@ -4,19 +4,19 @@ use mathlib.Core.Path.{_≡_, refl}
 use mathlib.Core.Bool.{true}
 use mathlib.Core.Logic.{inl, inr}
 use mathlib.Core.List.{List, [], _∷_}
-use Prim.Native.Nat.{ℕ, _-_, _≤_, _<_}
+use Prim.Native.Nat.{ℕ, _-_, _≤_}
 use native.Mathlib.Omega.{arith}
 use types.Run.{OneOf}
 use denote.Enum.Declared.{tagOf}
 use borrow.Author.Tests.{ne-eqb}
 use lib.ListN.{set}
 use Rattle.rules.specs.Limits.{mostPages, mostSlots}
-use Rattle.rules.specs.State.{withStack, withCounts, withPlaces, withDepth, withReader, withHanded, top}
+use Rattle.rules.specs.State.{withStack, withCounts, withPlaces, withDepth, withReader, withHanded, top, State}
 use Rattle.rules.specs.Shape.{inShape}
 use Rattle.rules.specs.Answers.{Outcome, gives}
 use Rattle.rules.specs.Write.{moved, planWrite, writeRule}
 use Rattle.rules.specs.Read.{fetched, planRead, readRule}
-use Rattle.rules.specs.Pieces.{answerAfter, countsAfter, placesAfter, depthAfter, recordAfter, storesAfter, readAnswer, readHanded, readPlaces, readPhase, readStores, stored, StoresFit, MoveFits, FetchFits}
+use Rattle.ring.specs.Pieces.{answerAfter, countsAfter, placesAfter, depthAfter, recordAfter, storesAfter, readAnswer, readHanded, readPlaces, readPhase, readStores, stored, StoresFit, MoveFits, FetchFits}
 use Rattle.rules.specs.declared.state.PageNo.{PageNo}
 use Rattle.rules.specs.declared.state.Size.{Size}
 use Rattle.rules.specs.declared.state.Places.{Places}
@@ -24,14 +24,13 @@ use Rattle.rules.specs.declared.state.Counts.{Counts}
 use Rattle.rules.specs.declared.state.Writer.{Writer}
 use Rattle.rules.specs.declared.state.Reader.{Reader}
 use Rattle.rules.specs.declared.state.Answer.{Answer}
-use Rattle.rules.specs.declared.state.State.{State}
 use Rattle.rules.specs.declared.moves.Move.{Move}
 use Rattle.rules.specs.declared.moves.Move.the-variants.{Become, Reserve, Drop, Mark, Promote, Clear, Push, Fill, Pend, Commit}
 use Rattle.rules.specs.declared.moves.Fetch.{Fetch}
 use Rattle.rules.specs.declared.moves.Fetch.the-variants as fetch
-use Rattle.rules.specs.declared.moves.Stores.{Stores}
-use Rattle.rules.specs.declared.moves.Stores.the-variants as stores
-use Rattle.rules.proofs.moves.Stores.{the-type}
+use Rattle.ring.specs.declared.pieces.Stores.{Stores}
+use Rattle.ring.specs.declared.pieces.Stores.the-variants as stores
+use Rattle.ring.proofs.pieces.Stores.{the-type}
 use Rattle.rules.proofs.state.Laws.{slotIndex-room}
 use Rattle.ring.proofs.write.Laws.{Allows}
 

@@ -9,15 +9,14 @@ use borrow.Author.Tests.{ltb-true, leb-true}
 use lib.Dec.{ltb, leb}
 use Rattle.rules.specs.Limits.{header}
 use Rattle.rules.specs.Refusals.{readVerdict}
-use Rattle.rules.specs.State.{page, wordAt}
+use Rattle.rules.specs.State.{page, wordAt, State}
 use Rattle.rules.specs.Words.{pageIn, readerOnCommit, links, findHeader}
 use Rattle.rules.specs.Shape.{readerFits}
 use Rattle.rules.specs.Read.{readLimit, findBy, planReader, planRead}
-use Rattle.rules.specs.Pieces.{FetchFits, EventFits}
+use Rattle.ring.specs.Pieces.{FetchFits, EventFits}
 use Rattle.rules.specs.declared.state.PageNo.{PageNo}
 use Rattle.rules.specs.declared.state.ReaderPhase.{ReaderPhase}
 use Rattle.rules.specs.declared.state.ReaderPhase.the-variants as phase
-use Rattle.rules.specs.declared.state.State.{State}
 use Rattle.rules.specs.declared.moves.Search.{Search}
 use Rattle.rules.specs.declared.moves.Search.the-variants.{At, Nowhere}
 use Rattle.rules.specs.declared.moves.Fetch.{Fetch}

@@ -12,16 +12,16 @@ use Rattle.rules.specs.Codes.{numbersOf}
 use Rattle.rules.specs.Shape.{inShape}
 use Rattle.rules.specs.Act.{act}
 use Rattle.rules.specs.Actions.{Decoded, stopped, codedAt, decoded, decodedFrom}
-use Rattle.rules.specs.Change.{changeOf, changed}
+use Rattle.ring.specs.Change.{changeOf, changed}
 use Rattle.rules.specs.Replay.{ringAfter, answersOf, answerNumbers, laid, over, laidAt, ranRoom, Reached}
 use Rattle.ring.specs.Replay.{replay, ran}
 use Rattle.rules.specs.declared.codes.Numbers.{Numbers}
 use Rattle.rules.specs.declared.state.Action.{Action}
 use Rattle.rules.specs.declared.state.Answer.{Answer}
 use Rattle.rules.specs.declared.state.Answer.the-variants.{Accepted}
-use Rattle.rules.specs.declared.state.State.{State}
+use Rattle.rules.specs.State.{State}
 use Rattle.rules.specs.declared.actions.Coded.the-variants.{Whole}
-use Rattle.ring.proofs.actions.Laws.{whole-moves, decoded-whole}
+use Rattle.rules.proofs.actions.Laws.{whole-moves, decoded-whole}
 use Rattle.ring.proofs.change.Laws.{change-acts}
 use Rattle.rules.proofs.runs.Reached.{reached-shape}
 

@@ -14,25 +14,24 @@ use lib.ListN.{getD, set}
 use lib.Seq.{append-snoc}
 use Rattle.rules.specs.Limits.{mostPages, slotRoom, normal, header, mostInRow}
 use Rattle.rules.specs.Lists.{tabulate}
-use Rattle.rules.specs.State.{reading, slotIndex, wordAt, placesReader, placesPosition, countsHanded, withReader, withPlaces, withWords, withUsed, withPosition, withHanded}
+use Rattle.rules.specs.State.{reading, slotIndex, wordAt, placesReader, placesPosition, countsHanded, withReader, withPlaces, withWords, withUsed, withPosition, withHanded, State}
 use Rattle.rules.specs.Words.{pageIn, wordOf}
 use Rattle.rules.specs.Shape.{placesFit, countsFit, readerFits, wordsFit, usedFit, inShape}
 use Rattle.rules.specs.Read.{readLimit, planRead, fetched}
-use Rattle.rules.specs.Pieces.{readAnswer, readPlaces, readPhase, readStores, wordsStored, usedStored, StoresFit}
-use Rattle.rules.specs.Drain.{eventNumber, Drain, noMore, before, afterRead, row, drained, eventAt, eventsFrom}
-use Rattle.rules.specs.Turn.{smaller, eventCount, placesBefore, leftAfter, turn, turnOf, turned, TurnFits}
+use Rattle.ring.specs.Pieces.{readAnswer, readPlaces, readPhase, readStores, wordsStored, usedStored, StoresFit}
+use Rattle.rules.specs.Drain.{eventNumber, Drain, noMore, before, afterRead, row, drained}
+use Rattle.ring.specs.Turn.{eventAt, eventsFrom, smaller, eventCount, placesBefore, leftAfter, turn, turnOf, turned, TurnFits}
 use Rattle.rules.specs.declared.state.PageNo.{PageNo}
 use Rattle.rules.specs.declared.state.Places.{Places}
 use Rattle.rules.specs.declared.state.Reader.{Reader}
 use Rattle.rules.specs.declared.state.Answer.{Answer}
 use Rattle.rules.specs.declared.state.Answer.the-variants as answer
 use Rattle.rules.specs.declared.state.ReaderPhase.the-variants as phase
-use Rattle.rules.specs.declared.state.State.{State}
 use Rattle.rules.specs.declared.state.Last.{Last}
 use Rattle.rules.specs.declared.state.Last.the-variants.{Given}
 use Rattle.rules.specs.declared.moves.Fetch.{Fetch}
 use Rattle.rules.specs.declared.moves.Fetch.the-variants.{Event, Empty, Busy, Find, Prepare, Swap, Miss}
-use Rattle.rules.specs.declared.moves.Turn.{Turn}
+use Rattle.ring.specs.declared.turn.Turn.{Turn}
 use Rattle.rules.proofs.Lists.{by-cond}
 use Rattle.rules.proofs.shape.Laws.{InShape, in-shape, pages-true, places-true, counts-true}
 use Rattle.rules.proofs.state.Laws.{slotIndex-room}

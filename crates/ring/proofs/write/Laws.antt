@@ -7,16 +7,15 @@ use native.Mathlib.Omega.{arith}
 use borrow.Author.Tests.{eqb-false, ltb-true}
 use lib.Dec.{eqb, ltb}
 use Rattle.rules.specs.Limits.{mostPages, stop, header, update}
-use Rattle.rules.specs.State.{wordAt, usedAt, top}
+use Rattle.rules.specs.State.{wordAt, usedAt, top, State}
 use Rattle.rules.specs.Refusals.{writeVerdict}
 use Rattle.rules.specs.Words.{pageIn, flagIn, samePage, readerOnCommit, links, findHeader}
 use Rattle.rules.specs.Shape.{pagesFit, writerFits}
 use Rattle.rules.specs.Write.{planFull, promoteBy, planPhase, planWrite}
-use Rattle.rules.specs.Pieces.{MoveFits}
+use Rattle.ring.specs.Pieces.{MoveFits}
 use Rattle.rules.specs.declared.state.PageNo.{PageNo}
 use Rattle.rules.specs.declared.state.WriterPhase.{WriterPhase}
 use Rattle.rules.specs.declared.state.WriterPhase.the-variants as phase
-use Rattle.rules.specs.declared.state.State.{State}
 use Rattle.rules.specs.declared.moves.Search.{Search}
 use Rattle.rules.specs.declared.moves.Search.the-variants.{At, Nowhere}
 use Rattle.rules.specs.declared.moves.Verdict.the-variants.{Allowed}

@@ -7,14 +7,13 @@ use Prim.Native.Nat.{ℕ, _+_, _*_, _<_}
 use native.Mathlib.Omega.{arith}
 use lib.ListN.{length, getD, length-append, List·getD-append}
 use lib.Seq.{getD-at}
-use Rattle.rules.specs.State.{numberAt, valueAt}
+use Rattle.rules.specs.State.{numberAt, valueAt, State}
 use Rattle.rules.specs.Read.{handOut}
 use Rattle.rules.specs.Remember.{Given, History}
 use Rattle.rules.specs.History.{onEvent}
 use Rattle.rules.specs.Demand.{ungiven, GivenIn}
 use Rattle.rules.specs.declared.state.ReaderPhase.{ReaderPhase}
 use Rattle.rules.specs.declared.state.ReaderPhase.the-variants as reading
-use Rattle.rules.specs.declared.state.State.{State}
 use Rattle.rules.proofs.Lists.{by-eq, by-lt}
 use Rattle.rules.proofs.invariant.Order.{S, R, usedOf}
 use Rattle.rules.proofs.invariant.Control.{Control}

@@ -6,12 +6,11 @@ use Prim.Native.Nat.{ℕ, _≤_, _<_}
 use native.Mathlib.Omega.{arith}
 use lib.ListN.{getD, set, length-set}
 use lib.Seq.{getD-set-same, getD-set-other}
-use Rattle.rules.specs.State.{page, top}
+use Rattle.rules.specs.State.{page, top, State}
 use Rattle.rules.specs.Write.{fill}
 use Rattle.rules.specs.Remember.{History}
 use Rattle.rules.specs.declared.state.WriterPhase.the-variants as phase
 use Rattle.rules.specs.declared.state.Writer.{Writer}
-use Rattle.rules.specs.declared.state.State.{State}
 use Rattle.rules.proofs.Lists.{by-eq}
 use Rattle.rules.proofs.invariant.Order.{N, S, R, topAt, usedOf, cell, phaseAt, rephase, Held, place}
 use Rattle.rules.proofs.invariant.Control.{Control}

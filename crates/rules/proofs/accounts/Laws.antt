@@ -10,7 +10,7 @@ use native.Mathlib.Nat.{mul-le-mul-left, mul-comm}
 use lib.ListN.{length, getD, set}
 use lib.Seq.{getD-set-same, getD-set-other}
 use Rattle.rules.specs.Limits.{mostPages, mostSlots, slotRoom}
-use Rattle.rules.specs.State.{page, sizeOf, noWriter}
+use Rattle.rules.specs.State.{page, sizeOf, noWriter, State}
 use Rattle.rules.specs.Remember.{BegunWriter, Numbered, Marker, History}
 use Rattle.rules.specs.declared.state.PageNo.{PageNo}
 use Rattle.rules.specs.declared.state.WriterPhase.{WriterPhase}
@@ -18,7 +18,6 @@ use Rattle.rules.specs.declared.state.WriterPhase.the-variants as phase
 use Rattle.rules.specs.declared.state.Writer.{Writer}
 use Rattle.rules.specs.declared.state.ReaderPhase.{ReaderPhase}
 use Rattle.rules.specs.declared.state.ReaderPhase.the-variants as reading
-use Rattle.rules.specs.declared.state.State.{State}
 use Rattle.rules.proofs.Lists.{by-eq}
 use Rattle.rules.proofs.state.Laws.{slotIndex-room, slotIndex-once}
 use Rattle.rules.proofs.invariant.Order.{R, C, usedOf, cell, phaseAt, storedAt, Held, place}

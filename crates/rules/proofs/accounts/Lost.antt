@@ -6,11 +6,10 @@ use mathlib.Core.List.{List, [], _∷_, _++_, append-assoc, append-nil}
 use Prim.Native.Nat.{ℕ, zero, suc, _+_, _<_}
 use native.Mathlib.Omega.{arith}
 use lib.ListN.{length, getD}
-use Rattle.rules.specs.State.{usedAt, numberAt}
+use Rattle.rules.specs.State.{usedAt, numberAt, State}
 use Rattle.rules.specs.Remember.{Overwriting}
 use Rattle.rules.specs.Demand.{All}
 use Rattle.rules.specs.declared.state.PageNo.{PageNo}
-use Rattle.rules.specs.declared.state.State.{State}
 use Rattle.rules.proofs.invariant.Accounts.{numbersOn, lostOf}
 
 -- ---- the numbers on a page

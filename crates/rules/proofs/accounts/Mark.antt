@@ -10,7 +10,7 @@ use native.Mathlib.Nat.{mul-le-mul-left}
 use borrow.Author.Tests.{lt-ltb, eq-eqb, ne-eqb}
 use lib.ListN.{length, getD, set, length-set, length-append, List·getD-append}
 use lib.Seq.{getD-append-add}
-use Rattle.rules.specs.State.{page, numberAt, top}
+use Rattle.rules.specs.State.{page, numberAt, top, State}
 use Rattle.rules.specs.Write.{mark}
 use Rattle.rules.specs.Remember.{Marker, By, History}
 use Rattle.rules.specs.History.{latest, markedBy, onMark, onMarked}
@@ -18,7 +18,6 @@ use Rattle.rules.specs.Demand.{isCommitted, RightlyTaken}
 use Rattle.rules.specs.declared.state.PageNo.{PageNo}
 use Rattle.rules.specs.declared.state.WriterPhase.{WriterPhase}
 use Rattle.rules.specs.declared.state.Writer.{Writer}
-use Rattle.rules.specs.declared.state.State.{State}
 use Rattle.rules.proofs.Lists.{by-eq, by-lt}
 use Rattle.rules.proofs.invariant.Order.{N, S, R, T, C, topAt, usedOf, cell, phaseAt, storedAt, rephase, Mark, Promote, place, turn}
 use Rattle.rules.proofs.invariant.Control.{Owns, Control}

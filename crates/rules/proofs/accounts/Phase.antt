@@ -5,12 +5,11 @@ use mathlib.Core.List.{List}
 use Prim.Native.Nat.{ℕ, suc, _+_, _≤_, _<_}
 use native.Mathlib.Omega.{arith}
 use lib.ListN.{length, set, length-set}
-use Rattle.rules.specs.State.{withWords, withReaderPhase, top, setPhase}
+use Rattle.rules.specs.State.{withWords, withReaderPhase, top, setPhase, State}
 use Rattle.rules.specs.Remember.{History}
 use Rattle.rules.specs.declared.state.WriterPhase.{WriterPhase}
 use Rattle.rules.specs.declared.state.Writer.{Writer}
 use Rattle.rules.specs.declared.state.ReaderPhase.{ReaderPhase}
-use Rattle.rules.specs.declared.state.State.{State}
 use Rattle.rules.proofs.Lists.{by-eq}
 use Rattle.rules.proofs.invariant.Order.{S, R, topAt, usedOf, phaseAt, storedAt, rephase, Held, place}
 use Rattle.rules.proofs.invariant.Control.{Owns}

@@ -6,14 +6,13 @@ use Prim.Native.Nat.{ℕ, _+_, _≤_}
 use native.Mathlib.Omega.{arith}
 use borrow.Author.Tests.{lt-ltb}
 use lib.ListN.{length, set, length-set}
-use Rattle.rules.specs.State.{noWriter, top, pop}
+use Rattle.rules.specs.State.{noWriter, top, pop, State}
 use Rattle.rules.specs.Write.{drop, commit}
 use Rattle.rules.specs.Remember.{BegunWriter, Numbered, By, History}
 use Rattle.rules.specs.History.{others, onEnded, onDropped, allCommitted, onCommitted}
 use Rattle.rules.specs.declared.state.WriterPhase.{WriterPhase}
 use Rattle.rules.specs.declared.state.WriterPhase.the-variants as phase
 use Rattle.rules.specs.declared.state.Writer.{Writer}
-use Rattle.rules.specs.declared.state.State.{State}
 use Rattle.rules.proofs.Lists.{by-eq}
 use Rattle.rules.proofs.invariant.Order.{N, S, R, T, topAt, usedOf, phaseAt, Held, place}
 use Rattle.rules.proofs.invariant.Control.{Owns, Control}

@@ -3,9 +3,8 @@
 use mathlib.Core.Path.{_≡_}
 use Prim.Native.Nat.{ℕ, suc}
 use native.Mathlib.Omega.{arith}
-use Rattle.rules.specs.State.{page, withTail}
+use Rattle.rules.specs.State.{page, withTail, State}
 use Rattle.rules.specs.Remember.{History}
-use Rattle.rules.specs.declared.state.State.{State}
 use Rattle.rules.proofs.invariant.Order.{S, R, T, usedOf, phaseAt, storedAt, place}
 use Rattle.rules.proofs.invariant.Accounts.{Accounts}
 use Rattle.rules.proofs.accounts.Laws.{held-map}

@@ -6,11 +6,10 @@ use mathlib.Core.List.{List}
 use Prim.Native.Nat.{ℕ, suc, _+_, _-_, _*_, _≤_, _<_}
 use native.Mathlib.Omega.{arith}
 use lib.ListN.{length, getD, set}
-use Rattle.rules.specs.State.{page}
+use Rattle.rules.specs.State.{page, State}
 use Rattle.rules.specs.Read.{swap}
 use Rattle.rules.specs.Remember.{History}
 use Rattle.rules.specs.declared.state.ReaderPhase.{ReaderPhase}
-use Rattle.rules.specs.declared.state.State.{State}
 use Rattle.rules.proofs.Lists.{by-lt}
 use Rattle.rules.proofs.invariant.Order.{N, S, R, T, C, usedOf, phaseAt, storedAt, Ready, place, swapped}
 use Rattle.rules.proofs.invariant.Control.{Control}

@@ -9,7 +9,7 @@ use native.Mathlib.Omega.{arith}
 use lib.ListN.{length, getD, set}
 use lib.Seq.{getD-set-same, getD-set-other, set-out}
 use Rattle.rules.specs.Limits.{mostCount}
-use Rattle.rules.specs.State.{page, writer, noWriter, withWords, slotIndex, setPhase, pop}
+use Rattle.rules.specs.State.{page, writer, noWriter, withWords, slotIndex, setPhase, pop, State}
 use Rattle.rules.specs.Begin.{begin}
 use Rattle.rules.specs.Write.{reserve, drop, commit}
 use Rattle.rules.specs.Read.{prepare, swap}
@@ -17,7 +17,6 @@ use Rattle.rules.specs.declared.state.PageNo.{PageNo}
 use Rattle.rules.specs.declared.state.WriterPhase.{WriterPhase}
 use Rattle.rules.specs.declared.state.WriterPhase.the-variants as phase
 use Rattle.rules.specs.declared.state.Writer.{Writer}
-use Rattle.rules.specs.declared.state.State.{State}
 use Rattle.rules.proofs.Lists.{by-eq, by-lt}
 use Rattle.rules.proofs.invariant.Order.{N, R, topAt, nextOf, rephase, Found, Ready, Links}
 use Rattle.rules.proofs.invariant.Control.{ReaderOk, Control}

@@ -6,12 +6,11 @@ use mathlib.Core.List.{List}
 use Prim.Native.Nat.{ℕ, _+_, _-_, _<_}
 use native.Mathlib.Omega.{arith}
 use lib.ListN.{length, set, length-set}
-use Rattle.rules.specs.State.{writer}
+use Rattle.rules.specs.State.{writer, State}
 use Rattle.rules.specs.Begin.{begin}
 use Rattle.rules.specs.declared.state.WriterPhase.{WriterPhase}
 use Rattle.rules.specs.declared.state.WriterPhase.the-variants as phase
 use Rattle.rules.specs.declared.state.Writer.{Writer}
-use Rattle.rules.specs.declared.state.State.{State}
 use Rattle.rules.proofs.Lists.{by-eq}
 use Rattle.rules.proofs.invariant.Order.{N, R, phaseAt, place}
 use Rattle.rules.proofs.invariant.Control.{Owns, Above, headed, headless, RecordIn, FlagsIn, OwnersIn, Control}

@@ -7,11 +7,10 @@ use mathlib.Core.List.{List}
 use Prim.Native.Nat.{ℕ, _+_, _-_, _*_, _≤_, _<_}
 use native.Mathlib.Omega.{arith}
 use lib.ListN.{set, length-set}
-use Rattle.rules.specs.State.{page, top}
+use Rattle.rules.specs.State.{page, top, State}
 use Rattle.rules.specs.Write.{clear}
 use Rattle.rules.specs.declared.state.WriterPhase.{WriterPhase}
 use Rattle.rules.specs.declared.state.Writer.{Writer}
-use Rattle.rules.specs.declared.state.State.{State}
 use Rattle.rules.proofs.Lists.{by-eq}
 use Rattle.rules.proofs.invariant.Order.{N, S, R, topAt, phaseAt, rephase, Promote, Clear, Push, place}
 use Rattle.rules.proofs.invariant.Control.{Moving, RecordOk, Owns, Owners, Above, Headed, headed, Joined, HeadedIn, Control}

@@ -2,10 +2,9 @@
 -- Assumes nothing.
 use mathlib.Core.Path.{_≡_, sym, subst}
 use Prim.Native.Nat.{ℕ, _≤_}
-use Rattle.rules.specs.State.{page, top}
+use Rattle.rules.specs.State.{page, top, State}
 use Rattle.rules.specs.Write.{fill}
 use Rattle.rules.specs.declared.state.WriterPhase.the-variants as phase
-use Rattle.rules.specs.declared.state.State.{State}
 use Rattle.rules.proofs.invariant.Order.{Held}
 use Rattle.rules.proofs.invariant.Control.{Free, Above, Control}
 use Rattle.rules.proofs.control.Phase.{top-above, unread-control, phase-control}

@@ -4,10 +4,9 @@ use mathlib.Core.Path.{_≡_, sym, ap, _∙_}
 use mathlib.Core.Logic.{_≢_}
 use Prim.Native.Nat.{ℕ, _≤_}
 use native.Mathlib.Omega.{arith}
-use Rattle.rules.specs.State.{withReaderPhase}
+use Rattle.rules.specs.State.{withReaderPhase, State}
 use Rattle.rules.specs.Read.{handOut}
 use Rattle.rules.specs.declared.state.ReaderPhase.the-variants as reading
-use Rattle.rules.specs.declared.state.State.{State}
 use Rattle.rules.proofs.invariant.Order.{N, R, C, nextOf, flagOf, Found, place}
 use Rattle.rules.proofs.invariant.Control.{Control}
 use Rattle.rules.proofs.control.Phase.{head-of, reader-control, unread-control}

@@ -4,9 +4,8 @@ use mathlib.Core.Path.{_≡_, refl, sym, ap, _∙_, subst}
 use mathlib.Core.Logic.{_≢_}
 use Prim.Native.Nat.{ℕ, suc, _-_, _≤_}
 use native.Mathlib.Omega.{arith}
-use Rattle.rules.specs.State.{top, setPhase}
+use Rattle.rules.specs.State.{top, setPhase, State}
 use Rattle.rules.specs.declared.state.WriterPhase.the-variants as phase
-use Rattle.rules.specs.declared.state.State.{State}
 use Rattle.rules.proofs.invariant.Order.{N, S, R, T, C, nextOf, flagOf, usedOf, Mark, Push, place}
 use Rattle.rules.proofs.invariant.Control.{At, Free, headed, headless, HeadlessIn, FlagsIn, Control}
 use Rattle.rules.proofs.control.Phase.{owner-record, newest-off, phase-control}

@@ -9,11 +9,10 @@ use Prim.Native.Nat.{ℕ, suc, _+_, _-_, _*_, _≤_, _<_}
 use native.Mathlib.Omega.{arith}
 use lib.ListN.{getD, set, length-set}
 use lib.Seq.{getD-set-same, getD-set-other}
-use Rattle.rules.specs.State.{page, top, setPhase}
+use Rattle.rules.specs.State.{page, top, setPhase, State}
 use Rattle.rules.specs.Write.{mark}
 use Rattle.rules.specs.declared.state.WriterPhase.the-variants as phase
 use Rattle.rules.specs.declared.state.Writer.{Writer}
-use Rattle.rules.specs.declared.state.State.{State}
 use Rattle.rules.proofs.Lists.{by-eq}
 use Rattle.rules.proofs.invariant.Order.{N, S, R, T, C, topAt, nextOf, flagOf, phaseAt, rephase, Mark, Promote, place, turn}
 use Rattle.rules.proofs.invariant.Control.{At, Moving, Marking, RecordOk, Owns, Free, Owners, Above, Flags, headless, Order, HeadedIn, Control}

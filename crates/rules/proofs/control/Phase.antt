@@ -8,13 +8,12 @@ use mathlib.Core.List.{List}
 use Prim.Native.Nat.{ℕ, _-_, _≤_, _<_}
 use native.Mathlib.Omega.{arith}
 use lib.ListN.{length, set, length-set}
-use Rattle.rules.specs.State.{top, withCounts, withPosition, withReaderPhase, withValues, setPhase}
+use Rattle.rules.specs.State.{top, withCounts, withPosition, withReaderPhase, withValues, setPhase, State}
 use Rattle.rules.specs.declared.state.WriterPhase.{WriterPhase}
 use Rattle.rules.specs.declared.state.WriterPhase.the-variants as phase
 use Rattle.rules.specs.declared.state.Writer.{Writer}
 use Rattle.rules.specs.declared.state.Counts.{Counts}
 use Rattle.rules.specs.declared.state.ReaderPhase.{ReaderPhase}
-use Rattle.rules.specs.declared.state.State.{State}
 use Rattle.rules.proofs.Lists.{by-eq}
 use Rattle.rules.proofs.invariant.Order.{N, S, R, T, C, topAt, flagOf, phaseAt, rephase, Promote, place}
 use Rattle.rules.proofs.invariant.Control.{At, Owns, Free, Owners, Above, Headed, Headless, Flags, headed, headless, RecordIn, HeadedIn, HeadlessIn, FlagsIn, ReaderIn, Control}

@@ -6,12 +6,11 @@ use mathlib.Core.List.{List}
 use Prim.Native.Nat.{ℕ, _≤_, _<_}
 use native.Mathlib.Omega.{arith}
 use lib.ListN.{set, length-set}
-use Rattle.rules.specs.State.{noWriter, top, pop}
+use Rattle.rules.specs.State.{noWriter, top, pop, State}
 use Rattle.rules.specs.Write.{drop, commit}
 use Rattle.rules.specs.declared.state.WriterPhase.{WriterPhase}
 use Rattle.rules.specs.declared.state.WriterPhase.the-variants as phase
 use Rattle.rules.specs.declared.state.Writer.{Writer}
-use Rattle.rules.specs.declared.state.State.{State}
 use Rattle.rules.proofs.invariant.Order.{N, R, T, topAt, phaseAt, place}
 use Rattle.rules.proofs.invariant.Control.{Owns, Free, Owners, Above, Flags, headed, headless, FlagsIn, Control}
 use Rattle.rules.proofs.control.Phase.{headless-records, unread-control, not-owner, headed-by}

@@ -7,9 +7,8 @@ use Prim.Native.Nat.{ℕ, _+_, _*_, _/_, _%_, _<_}
 use native.Mathlib.Omega.{arith}
 use lib.ListN.{getD, set, length-set}
 use lib.Seq.{getD-set-same, getD-set-other}
-use Rattle.rules.specs.State.{page}
+use Rattle.rules.specs.State.{page, State}
 use Rattle.rules.specs.Read.{prepare}
-use Rattle.rules.specs.declared.state.State.{State}
 use Rattle.rules.proofs.invariant.Order.{N, S, R, T, nextOf, flagOf, phaseAt, Found, place}
 use Rattle.rules.proofs.invariant.Control.{At, RecordOk, Flags, headed, headless, ReaderOk, FlagsIn, Control}
 use Rattle.rules.proofs.control.Phase.{owner-in, newest-off}

@@ -8,11 +8,10 @@ use mathlib.Core.List.{List}
 use Prim.Native.Nat.{ℕ, _+_, _-_, _*_, _≤_, _<_}
 use native.Mathlib.Omega.{arith}
 use lib.ListN.{set, length-set}
-use Rattle.rules.specs.State.{page, top, setPhase}
+use Rattle.rules.specs.State.{page, top, setPhase, State}
 use Rattle.rules.specs.Write.{afterPromote, promote}
 use Rattle.rules.specs.declared.state.WriterPhase.{WriterPhase}
 use Rattle.rules.specs.declared.state.Writer.{Writer}
-use Rattle.rules.specs.declared.state.State.{State}
 use Rattle.rules.proofs.Lists.{by-eq}
 use Rattle.rules.proofs.invariant.Order.{N, S, R, topAt, nextOf, flagOf, phaseAt, rephase, Promote, place}
 use Rattle.rules.proofs.invariant.Control.{Moving, RecordOk, Owns, Owners, Above, headed, headless, RecordIn, HeadedIn, HeadlessIn, FlagsIn, Control}

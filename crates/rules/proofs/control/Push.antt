@@ -5,11 +5,10 @@ use mathlib.Core.Logic.{_≢_}
 use Prim.Native.Nat.{ℕ, suc, _≤_, _<_}
 use native.Mathlib.Omega.{arith}
 use lib.ListN.{length-set}
-use Rattle.rules.specs.State.{page, top, setPhase}
+use Rattle.rules.specs.State.{page, top, setPhase, State}
 use Rattle.rules.specs.Write.{push}
 use Rattle.rules.specs.declared.state.WriterPhase.{WriterPhase}
 use Rattle.rules.specs.declared.state.WriterPhase.the-variants as phase
-use Rattle.rules.specs.declared.state.State.{State}
 use Rattle.rules.proofs.Lists.{by-eq, by-lt}
 use Rattle.rules.proofs.invariant.Order.{N, S, R, T, C, topAt, nextOf, usedOf, phaseAt, rephase, Push, place}
 use Rattle.rules.proofs.invariant.Control.{At, Moving, RecordOk, Free, Above, headed, Order, Control}

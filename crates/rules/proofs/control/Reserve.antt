@@ -7,11 +7,10 @@ use Prim.Native.Nat.{ℕ, _+_, _≤_, _<_}
 use native.Mathlib.Omega.{arith}
 use lib.ListN.{getD, set, length-set}
 use lib.Seq.{getD-set-same, getD-set-other}
-use Rattle.rules.specs.State.{top}
+use Rattle.rules.specs.State.{top, State}
 use Rattle.rules.specs.Write.{reserve}
 use Rattle.rules.specs.declared.state.WriterPhase.{WriterPhase}
 use Rattle.rules.specs.declared.state.WriterPhase.the-variants as phase
-use Rattle.rules.specs.declared.state.State.{State}
 use Rattle.rules.proofs.invariant.Order.{N, S, R, T, C, topAt, flagOf, usedOf, phaseAt, rephase, Held, place}
 use Rattle.rules.proofs.invariant.Control.{At, RecordOk, Owns, Free, headed, Order, RecordIn, HeadedIn, Control}
 use Rattle.rules.proofs.control.Phase.{headed-unless, owner-in, tail-le, owner-record, top-below, owners-free}

@@ -8,9 +8,8 @@ use Prim.Native.Nat.{ℕ, suc, _+_, _-_, _*_, _/_, _%_, _≤_, _<_}
 use native.Mathlib.Omega.{arith}
 use lib.ListN.{getD, set, length-set}
 use lib.Seq.{getD-set-same, getD-set-other}
-use Rattle.rules.specs.State.{page}
+use Rattle.rules.specs.State.{page, State}
 use Rattle.rules.specs.Read.{swap}
-use Rattle.rules.specs.declared.state.State.{State}
 use Rattle.rules.proofs.Lists.{by-eq, by-lt}
 use Rattle.rules.proofs.invariant.Order.{N, S, R, T, C, nextOf, flagOf, usedOf, phaseAt, Ready, place, swapped}
 use Rattle.rules.proofs.invariant.Control.{At, Moving, Marking, RecordOk, Headed, headed, Order, Joined, ReaderOk, HeadedIn, Control}

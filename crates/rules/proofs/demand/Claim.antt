@@ -6,7 +6,7 @@ use native.Mathlib.Omega.{arith}
 use Rattle.rules.specs.Receipt.{receiptOf}
 use Rattle.rules.specs.Remember.{History}
 use Rattle.rules.specs.Demand.{Claim}
-use Rattle.rules.specs.declared.state.State.{State}
+use Rattle.rules.specs.State.{State}
 use Rattle.rules.proofs.invariant.Control.{Control}
 use Rattle.rules.proofs.invariant.Accounts.{Accounts}
 use Rattle.rules.proofs.invariant.Fates.{FatesOf}

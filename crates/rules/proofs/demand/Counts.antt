@@ -7,7 +7,7 @@ use lib.ListN.{length, getD}
 use Rattle.rules.specs.Receipt.{waiting, uncommitted}
 use Rattle.rules.specs.Remember.{History}
 use Rattle.rules.specs.Demand.{onlyFirst, onlySecond, onlyThird, onlyFourth, Count, EventAt, HandedOut, Overwritten, NotCommitted, Waiting}
-use Rattle.rules.specs.declared.state.State.{State}
+use Rattle.rules.specs.State.{State}
 use Rattle.rules.proofs.invariant.Control.{Control}
 use Rattle.rules.proofs.invariant.Accounts.{lostOf, givenNumber, Accounts}
 use Rattle.rules.proofs.accounts.Laws.{committed-taken}

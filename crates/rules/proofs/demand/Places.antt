@@ -5,12 +5,11 @@ use mathlib.Core.Logic.{_⊎_, inl, inr, ⊎-elim}
 use Prim.Native.Nat.{ℕ, _+_, _≤_, _<_}
 use native.Mathlib.Omega.{arith}
 use borrow.Author.Tests.{ltb-true, ltb-false, lt-ltb, le-ltb}
-use Rattle.rules.specs.State.{page, valueAt}
+use Rattle.rules.specs.State.{page, valueAt, State}
 use Rattle.rules.specs.Remember.{History}
 use Rattle.rules.specs.History.{Run}
 use Rattle.rules.specs.Demand.{ExactlyOne, onlyFirst, onlySecond, onlyThird, onlyFourth, ownValue, HandedOut, Overwritten, LiesAt, NotCommitted, Waiting}
 use Rattle.rules.specs.declared.state.PageNo.{PageNo}
-use Rattle.rules.specs.declared.state.State.{State}
 use Rattle.rules.proofs.Lists.{by-eq, by-lt}
 use Rattle.rules.proofs.invariant.Order.{R, usedOf}
 use Rattle.rules.proofs.invariant.Control.{Control}

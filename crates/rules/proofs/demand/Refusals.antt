@@ -7,7 +7,7 @@ use mathlib.Core.Bool.{true, _&&_, _||_}
 use Prim.Native.Nat.{ℕ}
 use lib.Dec.{eqb, ltb}
 use Rattle.rules.specs.Limits.{mostDepth, mostCount, stop, header, update}
-use Rattle.rules.specs.State.{wordAt, usedAt, top}
+use Rattle.rules.specs.State.{wordAt, usedAt, top, State}
 use Rattle.rules.specs.Words.{pageIn, flagIn, samePage, readerOnCommit, links, findHeader}
 use Rattle.rules.specs.Shape.{inShape}
 use Rattle.rules.specs.Write.{planFull, afterPromote, promoteBy, planPhase, planWrite, moved}
@@ -21,7 +21,6 @@ use Rattle.rules.specs.declared.state.ReaderPhase.{ReaderPhase}
 use Rattle.rules.specs.declared.state.ReaderPhase.the-variants as reading
 use Rattle.rules.specs.declared.state.Action.{Action}
 use Rattle.rules.specs.declared.state.Action.the-variants as action
-use Rattle.rules.specs.declared.state.State.{State}
 use Rattle.rules.specs.declared.moves.Search.{Search}
 use Rattle.rules.specs.declared.moves.Search.the-variants as found
 use Rattle.rules.specs.declared.moves.Move.{Move}

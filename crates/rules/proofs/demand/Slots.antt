@@ -6,11 +6,10 @@ use mathlib.Core.Logic.{_≢_}
 use Prim.Native.Nat.{ℕ, suc, _+_, _-_, _*_, _/_, _%_, _≤_, _<_}
 use native.Mathlib.Omega.{arith}
 use native.Mathlib.Nat.{mul-le-mul-left, div-add-mod, mod-lt, le-div-iff-mul-le}
-use Rattle.rules.specs.State.{page, numberAt}
+use Rattle.rules.specs.State.{page, numberAt, State}
 use Rattle.rules.specs.Remember.{History}
 use Rattle.rules.specs.Demand.{LiesAt}
 use Rattle.rules.specs.declared.state.PageNo.{PageNo}
-use Rattle.rules.specs.declared.state.State.{State}
 use Rattle.rules.proofs.Lists.{by-eq, by-lt}
 use Rattle.rules.proofs.invariant.Order.{S, R, T, usedOf, place}
 use Rattle.rules.proofs.invariant.Control.{Control}

@@ -7,7 +7,7 @@ use Rattle.rules.specs.Receipt.{receiptOf, receiptRule}
 use Rattle.rules.specs.History.{Run}
 use Rattle.rules.specs.Demand.{Claim, CompleteClaim, Whole, Demand3}
 use Rattle.rules.specs.declared.state.Receipt.{Receipt}
-use Rattle.rules.specs.declared.state.State.{State}
+use Rattle.rules.specs.State.{State}
 use Rattle.rules.proofs.demand.Claim.{demand}
 use Rattle.rules.proofs.demand.Complete.{complete}
 use Rattle.rules.proofs.demand.Refusals.{sound}

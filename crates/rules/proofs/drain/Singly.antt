@@ -16,7 +16,7 @@ use Rattle.rules.specs.declared.state.Action.{Action}
 use Rattle.rules.specs.declared.state.Action.the-variants.{Read}
 use Rattle.rules.specs.declared.state.Refusal.the-variants.{Shape}
 use Rattle.rules.specs.declared.state.Answer.the-variants as answer
-use Rattle.rules.specs.declared.state.State.{State}
+use Rattle.rules.specs.State.{State}
 use Rattle.rules.specs.declared.state.Last.{Last}
 use Rattle.rules.specs.declared.state.Last.the-variants.{None, Given}
 use Rattle.rules.proofs.Lists.{by-bool}

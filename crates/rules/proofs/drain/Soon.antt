@@ -9,7 +9,7 @@ use Rattle.rules.specs.Answers.{Outcome}
 use Rattle.rules.specs.Read.{readRule}
 use Rattle.rules.specs.Drain.{Kind, event, ending, quiet, kindOf, Drain, noMore, before, byKind, afterRead, row, Brought, anEvent, anEmpty, aBusy}
 use Rattle.rules.specs.declared.state.Answer.{Answer}
-use Rattle.rules.specs.declared.state.State.{State}
+use Rattle.rules.specs.State.{State}
 use Rattle.rules.specs.declared.state.Last.{Last}
 use Rattle.rules.specs.declared.state.Last.the-variants.{Given}
 use Rattle.rules.proofs.runs.Reached.{RingOk}

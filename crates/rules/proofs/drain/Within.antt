@@ -12,7 +12,7 @@ use lib.Dec.{ltb}
 use lib.ListN.{getD}
 use lib.Seq.{getD-set-other}
 use Rattle.rules.specs.Limits.{header, mostInRow}
-use Rattle.rules.specs.State.{page, withReaderPhase}
+use Rattle.rules.specs.State.{page, withReaderPhase, State}
 use Rattle.rules.specs.Answers.{Outcome}
 use Rattle.rules.specs.Words.{readerOnCommit, links, findHeader}
 use Rattle.rules.specs.Shape.{inShape}
@@ -21,7 +21,6 @@ use Rattle.rules.specs.Replay.{Reached}
 use Rattle.rules.specs.Drain.{Drain, drained, Brought, anEvent, anEmpty, aBusy, enough, Brings}
 use Rattle.rules.specs.declared.state.ReaderPhase.{ReaderPhase}
 use Rattle.rules.specs.declared.state.ReaderPhase.the-variants as reading
-use Rattle.rules.specs.declared.state.State.{State}
 use Rattle.rules.specs.declared.state.Last.{Last}
 use Rattle.rules.specs.declared.state.Last.the-variants.{None}
 use Rattle.rules.specs.declared.moves.Search.{Search}

@@ -9,7 +9,7 @@ use Prim.Native.Nat.{ℕ, zero, suc, _+_, _*_, _≤_, _<_}
 use lib.Dec.{ltb}
 use lib.ListN.{length, getD}
 use Rattle.rules.specs.Limits.{mostPages, mostSlots, slotRoom, mostDepth}
-use Rattle.rules.specs.State.{page, usedAt, numberAt}
+use Rattle.rules.specs.State.{page, usedAt, numberAt, State}
 use Rattle.rules.specs.Remember.{BegunWriter, Numbered, Given, Overwriting, Marker, By, History, unbegun}
 use Rattle.rules.specs.Demand.{All, unnumbered, ungiven, GivenIn, RightlyTaken}
 use Rattle.rules.specs.declared.state.PageNo.{PageNo}
@@ -18,7 +18,6 @@ use Rattle.rules.specs.declared.state.WriterPhase.the-variants as phase
 use Rattle.rules.specs.declared.state.Writer.{Writer}
 use Rattle.rules.specs.declared.state.ReaderPhase.{ReaderPhase}
 use Rattle.rules.specs.declared.state.ReaderPhase.the-variants as reading
-use Rattle.rules.specs.declared.state.State.{State}
 use Rattle.rules.proofs.invariant.Order.{N, S, R, T, C, usedOf, cell, phaseAt, storedAt, Held, place}
 use Rattle.rules.proofs.invariant.Control.{Owns}
 

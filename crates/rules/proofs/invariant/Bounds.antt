@@ -7,7 +7,7 @@ use Rattle.rules.specs.Limits.{mostCount, stop}
 use Rattle.rules.specs.declared.state.WriterPhase.{WriterPhase}
 use Rattle.rules.specs.declared.state.WriterPhase.the-variants as phase
 use Rattle.rules.specs.declared.state.Writer.{Writer}
-use Rattle.rules.specs.declared.state.State.{State}
+use Rattle.rules.specs.State.{State}
 use Rattle.rules.proofs.invariant.Order.{N, R, nextOf, phaseAt}
 
 -- the page n that a MARK names is at most N

@@ -7,7 +7,7 @@ use mathlib.Core.List.{List}
 use Prim.Native.Nat.{ℕ, _<_}
 use lib.ListN.{length}
 use Rattle.rules.specs.Remember.{BegunWriter, Numbered, History}
-use Rattle.rules.specs.declared.state.State.{State}
+use Rattle.rules.specs.State.{State}
 use Rattle.rules.proofs.invariant.Order.{phaseAt}
 use Rattle.rules.proofs.invariant.Accounts.{nthReading, early, workerAt}
 

@@ -11,7 +11,7 @@ use Rattle.rules.specs.Limits.{mostDepth, mostCount}
 use Rattle.rules.specs.Shape.{inShape}
 use Rattle.rules.specs.Begin.{begin, beginRule}
 use Rattle.rules.specs.Remember.{History}
-use Rattle.rules.specs.declared.state.State.{State}
+use Rattle.rules.specs.State.{State}
 use Rattle.rules.proofs.Lists.{by-bool}
 use Rattle.rules.proofs.invariant.Accounts.{early}
 use Rattle.rules.proofs.accounts.Begin.{begun-accounts}

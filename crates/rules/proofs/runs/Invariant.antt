@@ -4,7 +4,7 @@ use Prim.Native.Nat.{ℕ}
 use Rattle.rules.specs.Answers.{Outcome}
 use Rattle.rules.specs.Remember.{History}
 use Rattle.rules.specs.History.{recall}
-use Rattle.rules.specs.declared.state.State.{State}
+use Rattle.rules.specs.State.{State}
 use Rattle.rules.proofs.invariant.Control.{Control}
 use Rattle.rules.proofs.invariant.Accounts.{Accounts}
 use Rattle.rules.proofs.invariant.Fates.{FatesOf}

@@ -8,14 +8,13 @@ use borrow.Author.Tests.{ltb-true, ltb-false, eqb-true, eqb-false}
 use lib.Dec.{ltb}
 use lib.ListN.{getD}
 use Rattle.rules.specs.Limits.{header}
-use Rattle.rules.specs.State.{page}
+use Rattle.rules.specs.State.{page, State}
 use Rattle.rules.specs.Words.{readerOnCommit, links, findHeader}
 use Rattle.rules.specs.Shape.{inShape}
 use Rattle.rules.specs.Read.{readLimit, findBy, planIdle, planReady, planReader, fetched, readRule}
 use Rattle.rules.specs.Remember.{History}
 use Rattle.rules.specs.declared.state.ReaderPhase.{ReaderPhase}
 use Rattle.rules.specs.declared.state.ReaderPhase.the-variants as reading
-use Rattle.rules.specs.declared.state.State.{State}
 use Rattle.rules.specs.declared.moves.Search.{Search}
 use Rattle.rules.specs.declared.moves.Search.the-variants as found
 use Rattle.rules.specs.declared.moves.Fetch.{Fetch}

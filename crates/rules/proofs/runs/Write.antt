@@ -8,7 +8,7 @@ use borrow.Author.Tests.{ltb-true, ltb-false, eqb-true, eqb-false, eq-eqb}
 use lib.Dec.{eqb, ltb}
 use lib.ListN.{getD, set}
 use Rattle.rules.specs.Limits.{stop, header, update}
-use Rattle.rules.specs.State.{page, noWriter, wordAt, usedAt, top, setPhase}
+use Rattle.rules.specs.State.{page, noWriter, wordAt, usedAt, top, setPhase, State}
 use Rattle.rules.specs.Words.{pageIn, flagIn, samePage, readerOnCommit, links, findHeader}
 use Rattle.rules.specs.Shape.{inShape}
 use Rattle.rules.specs.Write.{planFull, planMark, afterPromote, promoteBy, planPromote, planClear, planPush, planFilled, planPhase, mark, moved, writeRule}
@@ -19,7 +19,6 @@ use Rattle.rules.specs.declared.state.WriterPhase.{WriterPhase}
 use Rattle.rules.specs.declared.state.WriterPhase.the-variants as phase
 use Rattle.rules.specs.declared.state.Writer.{Writer}
 use Rattle.rules.specs.declared.state.Answer.the-variants as answer
-use Rattle.rules.specs.declared.state.State.{State}
 use Rattle.rules.specs.declared.moves.Search.{Search}
 use Rattle.rules.specs.declared.moves.Search.the-variants as found
 use Rattle.rules.specs.declared.moves.Move.{Move}

@@ -12,13 +12,12 @@ use lib.Dec.{leb}
 use lib.ListN.{getD}
 use Rattle.rules.specs.Limits.{leastPages, mostPages, leastSlots, mostSlots, mostDepth, mostCount, stop}
 use Rattle.rules.specs.Lists.{allBelow}
-use Rattle.rules.specs.State.{page, usedAt}
+use Rattle.rules.specs.State.{page, usedAt, State}
 use Rattle.rules.specs.Shape.{sizeTests, placeTests, placesFit, smallTests, countsSmall, agreeTests, countsAgree, pageTests, pagesFit, heldTests, heldFits, readerFits, recordFitsAt, wordFitsAt, usedFitsAt, numberFits, numbersFit, countsFit, layoutTests, layoutFits, ringFits, inShape}
 use Rattle.rules.specs.declared.state.PageNo.{PageNo}
 use Rattle.rules.specs.declared.state.Size.{Size}
 use Rattle.rules.specs.declared.state.Places.{Places}
 use Rattle.rules.specs.declared.state.Counts.{Counts}
-use Rattle.rules.specs.declared.state.State.{State}
 use Rattle.rules.proofs.Lists.{each, every-each, and-left, and-right, and-both, allBelow-at, all-getD}
 
 pub record InShape (r : State) : Type 0 where

@@ -11,7 +11,7 @@ use lib.Dec.{eqb, ltb}
 use lib.ListN.{length, take, drop, length-drop}
 use lib.Seq.{take-all}
 use Rattle.rules.specs.Lists.{first}
-use Rattle.rules.specs.State.{sizeOf}
+use Rattle.rules.specs.State.{sizeOf, State}
 use Rattle.rules.specs.Shape.{sizeFits}
 use Rattle.rules.specs.Actions.{Decoded, byteAt, decoded, Decodes}
 use Rattle.rules.specs.Replay.{answerNumbers, ranRoom, roomFits, roomRule}
@@ -20,9 +20,8 @@ use Rattle.rules.specs.declared.state.Refusal.{Refusal}
 use Rattle.rules.specs.declared.state.Refusal.the-variants as refusal
 use Rattle.rules.specs.declared.state.Answer.the-variants as answer
 use Rattle.ring.specs.declared.state.Replay.{Replay}
-use Rattle.rules.specs.declared.state.State.{State}
 use Rattle.rules.proofs.Lists.{by-cond, by-eq}
-use Rattle.ring.proofs.actions.Laws.{stop-within, decodes}
+use Rattle.rules.proofs.actions.Laws.{stop-within, decodes}
 use Rattle.rules.proofs.actions.Shift.{shifted, decoded-drop}
 use Rattle.trace.specs.Header.{modeOf, setUp, pagesAt, slotsAt, modeAt, setUpIn, headerRows, headerOf}
 use Rattle.trace.specs.Replays.{walkPlace, walkBytes, walkActions, wholeTo, walked, frontRing, replayedBy, replayedFrom, NineRight}

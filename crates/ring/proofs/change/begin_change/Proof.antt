@@ -1,6 +1,5 @@
 -- `change::begin_change` is the definition, by its verdict. Where it is Allowed, begun is below its limit, so the sums fit. Assumes nothing.
-use mathlib.Core.Path.{_≡_, sym, _∙_}
-use native.Mathlib.Omega.{arith}
+use mathlib.Core.Path.{sym, _∙_}
 use borrow.Author.Needs.{needs}
 use Rattle.ring.proofs.change.begin_change.Statement.{statement}
 use Rattle.ring.proofs.change.begin_change.Tie as tie

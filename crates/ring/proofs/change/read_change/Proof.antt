@@ -1,5 +1,5 @@
 -- `change::read_change` is the definition: each piece is what the rule that applies leaves of it. Assumes nothing.
-use mathlib.Core.Path.{_≡_, sym, _∙_}
+use mathlib.Core.Path.{sym, _∙_}
 use borrow.Author.Needs.{needs}
 use Rattle.ring.proofs.change.read_change.Statement.{statement}
 use Rattle.ring.proofs.change.read_change.Tie as tie

@@ -3,8 +3,8 @@ use mathlib.Core.Path.{_≡_, refl}
 use mathlib.Core.List.{[], _∷_}
 use native.Mathlib.Omega.{arith}
 use borrow.Author.Needs.{needs}
-use Rattle.rules.specs.Pieces.{valuesStored}
-use Rattle.rules.specs.declared.moves.Stores.{Stores}
+use Rattle.ring.specs.Pieces.{valuesStored}
+use Rattle.ring.specs.declared.pieces.Stores.{Stores}
 use Rattle.ring.proofs.moves.Laws.{stores-of-numbers}
 use Rattle.ring.proofs.change.store_values.Statement.{statement}
 use Rattle.ring.proofs.change.store_values.Tie as tie

@@ -1,7 +1,7 @@
 -- `codes::refusal_code` is the definition, and its sum fits, since a refusal's code is one of the kinds. Assumes nothing.
 use borrow.Author.Needs.{needs}
 use native.Mathlib.Omega.{arith}
-use Rattle.ring.proofs.codes.Laws.{refusal-below}
+use Rattle.rules.proofs.codes.Laws.{refusal-below}
 use Rattle.ring.proofs.codes.refusal_code.Statement.{statement}
 use Rattle.ring.proofs.codes.refusal_code.Tie as tie
 

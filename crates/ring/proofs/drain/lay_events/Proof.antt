@@ -7,7 +7,7 @@ use borrow.Author.Needs.{needs}
 use lib.ListN.{length}
 use lib.Seq.{sets, length-sets}
 use Rattle.rules.specs.Lists.{tabulate}
-use Rattle.rules.specs.Drain.{eventAt, eventsFrom}
+use Rattle.ring.specs.Turn.{eventAt, eventsFrom}
 use Rattle.rules.proofs.Lists.{length-tabulate, sets-more}
 use Rattle.ring.proofs.drain.lay_events.Statement.{statement}
 use Rattle.ring.proofs.drain.lay_events.Tie as tie

@@ -5,7 +5,7 @@ use mathlib.Core.List.{[], _∷_}
 use native.Mathlib.Omega.{arith}
 use borrow.Author.Needs.{needs}
 use denote.Ref.{now}
-use Rattle.rules.specs.Pieces.{countsAfter}
+use Rattle.ring.specs.Pieces.{countsAfter}
 use Rattle.rules.specs.declared.moves.Move.{Move}
 use Rattle.ring.proofs.moves.Laws.{of-numbers}
 use Rattle.ring.proofs.pieces.counts_after.Statement.{statement}

@@ -3,7 +3,7 @@ use mathlib.Core.Path.{_≡_, refl}
 use mathlib.Core.List.{[], _∷_}
 use Prim.Native.Nat.{_-_}
 use borrow.Author.Needs.{needs}
-use Rattle.rules.specs.Pieces.{depthAfter}
+use Rattle.ring.specs.Pieces.{depthAfter}
 use Rattle.rules.specs.declared.moves.Move.{Move}
 use Rattle.ring.proofs.moves.Laws.{of-numbers}
 use Rattle.ring.proofs.pieces.depth_after.Statement.{statement}

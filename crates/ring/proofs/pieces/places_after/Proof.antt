@@ -3,7 +3,7 @@ use mathlib.Core.Path.{_≡_, refl}
 use mathlib.Core.List.{[], _∷_}
 use borrow.Author.Needs.{needs}
 use denote.Ref.{now}
-use Rattle.rules.specs.Pieces.{placesAfter}
+use Rattle.ring.specs.Pieces.{placesAfter}
 use Rattle.rules.specs.declared.moves.Move.{Move}
 use Rattle.ring.proofs.moves.Laws.{of-numbers}
 use Rattle.ring.proofs.pieces.places_after.Statement.{statement}

@@ -2,7 +2,7 @@
 use mathlib.Core.Path.{_≡_, refl}
 use mathlib.Core.List.{[], _∷_}
 use borrow.Author.Needs.{needs}
-use Rattle.rules.specs.Pieces.{readPhase}
+use Rattle.ring.specs.Pieces.{readPhase}
 use Rattle.rules.specs.declared.state.Reader.{Reader}
 use Rattle.rules.specs.declared.state.ReaderPhase.the-variants.{Idle}
 use Rattle.rules.specs.declared.moves.Fetch.{Fetch}

@@ -2,7 +2,7 @@
 use mathlib.Core.Path.{_≡_, refl}
 use mathlib.Core.List.{[], _∷_}
 use borrow.Author.Needs.{needs}
-use Rattle.rules.specs.Pieces.{readPlaces}
+use Rattle.ring.specs.Pieces.{readPlaces}
 use Rattle.rules.specs.declared.moves.Fetch.{Fetch}
 use Rattle.ring.proofs.moves.Laws.{fetch-of-numbers}
 use Rattle.ring.proofs.pieces.read_places.Statement.{statement}

@@ -4,7 +4,7 @@ use mathlib.Core.Path.{_≡_, refl}
 use mathlib.Core.List.{[], _∷_}
 use borrow.Author.Needs.{needs}
 use Rattle.rules.specs.State.{noWriter}
-use Rattle.rules.specs.Pieces.{recordAfter}
+use Rattle.ring.specs.Pieces.{recordAfter}
 use Rattle.rules.specs.declared.moves.Move.{Move}
 use Rattle.ring.proofs.moves.Laws.{of-numbers}
 use Rattle.ring.proofs.pieces.record_after.Statement.{statement}

@@ -1,5 +1,4 @@
 -- `read_verdict` is the definition: SHAPE and nothing else. Assumes nothing.
-use borrow.Author.Needs.{needs}
 use Rattle.ring.proofs.read.read_verdict.Statement.{statement}
 use Rattle.ring.proofs.read.read_verdict.Tie as tie
 

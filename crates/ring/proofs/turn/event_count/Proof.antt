@@ -3,7 +3,7 @@ use mathlib.Core.Path.{_≡_, refl}
 use mathlib.Core.List.{[], _∷_}
 use native.Mathlib.Omega.{arith}
 use borrow.Author.Needs.{needs}
-use Rattle.rules.specs.Turn.{eventCount}
+use Rattle.ring.specs.Turn.{eventCount}
 use Rattle.rules.specs.declared.moves.Fetch.{Fetch}
 use Rattle.ring.proofs.moves.Laws.{fetch-of-numbers}
 use Rattle.ring.proofs.turn.event_count.Statement.{statement}

@@ -3,7 +3,7 @@ use mathlib.Core.Path.{_≡_, refl}
 use mathlib.Core.List.{[], _∷_}
 use Prim.Native.Nat.{_-_}
 use borrow.Author.Needs.{needs}
-use Rattle.rules.specs.Turn.{leftAfter}
+use Rattle.ring.specs.Turn.{leftAfter}
 use Rattle.rules.specs.declared.moves.Fetch.{Fetch}
 use Rattle.ring.proofs.moves.Laws.{fetch-of-numbers}
 use Rattle.ring.proofs.turn.left_after.Statement.{statement}

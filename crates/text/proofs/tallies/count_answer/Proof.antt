@@ -2,7 +2,7 @@
 use borrow.Author.Needs.{needs}
 use native.Mathlib.Omega.{arith}
 use mathlib.Core.Path.{ap}
-use Rattle.ring.proofs.codes.Laws.{code-of, code-below}
+use Rattle.rules.proofs.codes.Laws.{code-of, code-below}
 use Rattle.text.proofs.tallies.count_answer.Statement.{statement}
 use Rattle.text.proofs.tallies.count_answer.Tie as tie
 

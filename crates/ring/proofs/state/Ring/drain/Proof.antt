@@ -49,7 +49,7 @@ use denote.Triple.Table.{entered, cited}
 use denote.Triple.Walked.{says, Stays, stay-dropped, walkOf, goes-dropped, goes-spent-slice, Walks, ends-at, walked, walk-meets}
 use denote.Exit.{yes, no}
 use Rattle.rules.specs.Drain.{Drain, drainRule}
-use Rattle.ring.specs.Held.{stateOf, ringOf, drainedInto, laidOut}
+use Rattle.ring.specs.Ring.{stateOf, ringOf, drainedInto, laidOut}
 use Rattle.ring.specs.declared.state.Ring.{Ring}
 use Rattle.ring.specs.declared.state.DrainedInto.{DrainedInto}
 use Rattle.ring.specs.declared.drained.Drained.{Drained}

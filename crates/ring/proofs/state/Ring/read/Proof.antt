@@ -2,21 +2,21 @@
 -- wide. Where it is Allowed, what is done is the rule's, each piece is what it leaves of it, and the cells that are stored to are within the arrays; so
 -- each arm of the match returns the rule's outcome. Assumes nothing.
 use mathlib.Core.Path.{_≡_, sym, ap, _∙_}
-use mathlib.Core.Bool.{Bool, true, _&&_}
+use mathlib.Core.Bool.{true, _&&_}
 use Prim.Native.Nat.{ℕ, _≤_}
 use native.Mathlib.Omega.{arith}
 use borrow.Author.Needs.{needs}
 use mir.Syntax.{w32}
 use mir.Val.{Fits}
 use lib.ListN.{getD}
-use Rattle.ring.specs.Held.{stateOf}
+use Rattle.ring.specs.Ring.{stateOf}
 use Rattle.rules.specs.Limits.{mostPages}
 use Rattle.rules.specs.Refusals.{readVerdict}
 use Rattle.rules.specs.Shape.{inShape}
 use Rattle.rules.specs.Read.{planRead, readRule}
-use Rattle.rules.specs.Pieces.{StoresFit, FetchFits}
-use Rattle.rules.specs.declared.state.State.{State}
-use Rattle.rules.specs.declared.moves.Stores.the-variants.{Same}
+use Rattle.ring.specs.Pieces.{StoresFit, FetchFits}
+use Rattle.rules.specs.State.{State}
+use Rattle.ring.specs.declared.pieces.Stores.the-variants.{Same}
 use Rattle.rules.proofs.shape.Laws.{InShape, in-shape, tested-inShape}
 use Rattle.ring.proofs.read.Laws.{allows, plan-fits, event-fits}
 use Rattle.ring.proofs.pieces.Laws.{readLeaves, read-leaves, read-stores-fit, read-stores-same}

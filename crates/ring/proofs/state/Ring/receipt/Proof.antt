@@ -7,9 +7,9 @@ use borrow.Author.Needs.{needs}
 use mir.Syntax.{w32}
 use mir.Val.{Fits}
 use lib.ListN.{getD}
-use Rattle.ring.specs.Held.{stateOf}
+use Rattle.ring.specs.Ring.{stateOf}
 use Rattle.rules.specs.Shape.{inShape}
-use Rattle.rules.specs.declared.state.State.{State}
+use Rattle.rules.specs.State.{State}
 use Rattle.rules.proofs.Lists.{and-left}
 use Rattle.rules.proofs.shape.Laws.{tested-inShape}
 use Rattle.ring.proofs.state.Ring.receipt.Statement.{statement}

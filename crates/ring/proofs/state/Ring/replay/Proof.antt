@@ -6,15 +6,14 @@ use mathlib.Core.List.{[]}
 use native.Mathlib.Omega.{arith}
 use borrow.Author.Needs.{needs}
 use borrow.Author.Tests.{not-true, not-false, lt-ltb, le-ltb}
-use Rattle.ring.specs.Held.{stateOf}
-use Rattle.rules.specs.State.{sizeOf}
+use Rattle.ring.specs.Ring.{stateOf}
+use Rattle.rules.specs.State.{sizeOf, State}
 use Rattle.rules.specs.Answers.{Outcome}
 use Rattle.rules.specs.Shape.{sizeFits}
 use Rattle.rules.specs.SetUp.{freshRing}
 use Rattle.rules.specs.Actions.{decoded}
-use Rattle.rules.specs.Replay.{ranRoom, Reached}
+use Rattle.rules.specs.Replay.{ranRoom}
 use Rattle.ring.specs.Replay.{ran}
-use Rattle.rules.specs.declared.state.State.{State}
 use Rattle.rules.proofs.runs.Always.{fresh-is}
 use Rattle.ring.proofs.state.Ring.replay.Statement.{statement}
 use Rattle.ring.proofs.state.Ring.replay.Tie as tie

@@ -1,21 +1,21 @@
 -- `Ring::run` makes the actions of the bytes one by one. The loop keeps `Progress` (proofs/replay/Laws): a turn stores what the action leaves, which is the action, and
 -- lays its answer; the ring of each turn is in shape, since it is reached from a set-up. The measure is how many bytes are left. Assumes nothing.
-use mathlib.Core.Path.{_≡_, refl, sym, ap, _∙_}
-use Prim.Native.Nat.{ℕ, _+_, _*_, _^_, _-_, _≤_, _<_}
+use mathlib.Core.Path.{_≡_, sym, ap, _∙_}
+use Prim.Native.Nat.{_+_, _*_, _^_, _-_, _≤_, _<_}
 use native.Mathlib.Omega.{arith}
 use borrow.Author.Needs.{needs}
 use lib.ListN.{length}
-use Rattle.ring.specs.Held.{stateOf}
+use Rattle.ring.specs.Ring.{stateOf}
 use Rattle.rules.specs.Limits.{mostDepth}
 use Rattle.rules.specs.Actions.{codedAt}
 use Rattle.rules.specs.Replay.{answerNumbers, laidAt}
-use Rattle.rules.specs.Pieces.{StoresFit}
-use Rattle.rules.specs.Change.{changeOf, changed}
+use Rattle.ring.specs.Pieces.{StoresFit}
+use Rattle.ring.specs.Change.{changeOf, changed}
 use Rattle.rules.specs.declared.state.Action.{Action}
-use Rattle.rules.specs.declared.state.State.{State}
-use Rattle.rules.specs.declared.moves.Change.{Change}
+use Rattle.rules.specs.State.{State}
+use Rattle.ring.specs.declared.change.Change.{Change}
 use Rattle.rules.specs.declared.actions.Coded.the-variants.{Whole}
-use Rattle.ring.proofs.actions.Laws.{whole-moves, decoded-stops, stops-of-numbers}
+use Rattle.rules.proofs.actions.Laws.{whole-moves, decoded-stops, stops-of-numbers}
 use Rattle.rules.proofs.shape.Laws.{InShape, in-shape}
 use Rattle.ring.proofs.change.Laws.{change-fits, change-top, change-stores}
 use Rattle.ring.proofs.replay.Laws.{Progress, start, shaped, room-length, turn, finish}

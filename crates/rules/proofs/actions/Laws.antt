@@ -3,19 +3,19 @@
 use mathlib.Core.Path.{_≡_, refl, subst, ap, _∙_}
 use mathlib.Core.Logic.{inl, inr}
 use mathlib.Core.List.{List, [], _∷_}
-use Prim.Native.Nat.{ℕ, zero, suc, _+_, _-_, _<_, _≤_}
+use Prim.Native.Nat.{ℕ, zero, suc, _-_, _<_, _≤_}
 use native.Mathlib.Omega.{arith}
 use borrow.Author.Tests.{leb-true, leb-false, ltb-false, le-leb}
 use types.Run.{OneOf}
 use denote.Enum.Declared.{tagOf}
 use lib.Dec.{eqb, leb, ltb}
 use lib.ListN.{length}
 use Rattle.rules.specs.declared.state.Action.{Action}
 use Rattle.rules.specs.declared.actions.Coded.{Coded}
 use Rattle.rules.specs.declared.actions.Coded.the-variants.{Whole, Broken, End}
 use Rattle.rules.specs.Actions.{Decoded, beginCode, writeCode, readCode, beginLength, byteAt, beginAt, codedAt, stopped, before, goOn, decodedWithin, decodedFrom, Stops, Decodes}
 use Rattle.rules.proofs.actions.Coded.{the-type}
 use Rattle.rules.proofs.Lists.{by-cond}
 
 -- a whole action has a byte at least, and ends within the bytes
 abbrev Moves : List ℕ → ℕ → Coded → Type 0

@@ -7,26 +7,25 @@ use mathlib.Core.Path.{_≡_}
 use mathlib.Core.List.{List}
 use Prim.Native.Nat.{ℕ, _+_, _≤_, _<_}
 use lib.ListN.{set}
 use Rattle.rules.specs.Limits.{mostPages, mostSlots, slotRoom, normal, header, update}
-use Rattle.rules.specs.State.{reading, sizeOf, writer, withPlaces, withCounts, withDepth, withReader, withWords, withUsed, withNumbers, withValues, withTaken, withHanded, wordAt, slotIndex, recordAt, setRecord, blank}
+use Rattle.rules.specs.State.{reading, sizeOf, writer, withPlaces, withCounts, withDepth, withReader, withWords, withUsed, withNumbers, withValues, withTaken, withHanded, wordAt, slotIndex, recordAt, setRecord, blank, State}
 use Rattle.rules.specs.Words.{pageIn, wordOf}
 use Rattle.rules.specs.Write.{moved}
 use Rattle.rules.specs.Read.{fetched}
 use Rattle.rules.specs.declared.state.PageNo.{PageNo}
 use Rattle.rules.specs.declared.state.Size.{Size}
 use Rattle.rules.specs.declared.state.Places.{Places}
 use Rattle.rules.specs.declared.state.Counts.{Counts}
 use Rattle.rules.specs.declared.state.WriterPhase.the-variants.{Want}
 use Rattle.rules.specs.declared.state.Writer.{Writer}
 use Rattle.rules.specs.declared.state.Reader.{Reader}
 use Rattle.rules.specs.declared.state.Answer.{Answer}
-use Rattle.rules.specs.declared.state.State.{State}
 use Rattle.rules.specs.declared.moves.Move.{Move}
 use Rattle.rules.specs.declared.moves.Move.the-variants.{Become, Reserve, Drop, Mark, Promote, Clear, Push, Fill, Pend, Commit}
 use Rattle.rules.specs.declared.moves.Fetch.{Fetch}
 use Rattle.rules.specs.declared.moves.Fetch.the-variants as fetch
-use Rattle.rules.specs.declared.moves.Stores.{Stores}
-use Rattle.rules.specs.declared.moves.Stores.the-variants as stores
+use Rattle.ring.specs.declared.pieces.Stores.{Stores}
+use Rattle.ring.specs.declared.pieces.Stores.the-variants as stores
 
 -- a ring of zeros; no piece below depends on its size
 abbrev pub empty : State

@@ -6,32 +6,31 @@ use mathlib.Core.Bool.{true}
 use mathlib.Core.List.{List}
 use Prim.Native.Nat.{ℕ, _+_, _-_, _≤_}
 use lib.ListN.{set}
 use Rattle.rules.specs.Limits.{mostPages, mostSlots, mostDepth, mostCount}
-use Rattle.rules.specs.State.{writer, countsBegun, countsHanded, withStack, withCounts, withPlaces, withDepth, withReader, top}
+use Rattle.rules.specs.State.{writer, countsBegun, countsHanded, withStack, withCounts, withPlaces, withDepth, withReader, top, State}
 use Rattle.rules.specs.Codes.{numbersOf}
 use Rattle.rules.specs.Refusals.{beginVerdict, writeVerdict}
 use Rattle.rules.specs.Shape.{writerFits, readerFits}
 use Rattle.rules.specs.Write.{planPhase}
 use Rattle.rules.specs.Read.{planReader}
-use Rattle.rules.specs.Pieces.{answerAfter, countsAfter, placesAfter, depthAfter, recordAfter, storesAfter, readAnswer, readHanded, readPlaces, readPhase, readStores, stored, MoveFits, FetchFits, EventFits}
+use Rattle.ring.specs.Pieces.{answerAfter, countsAfter, placesAfter, depthAfter, recordAfter, storesAfter, readAnswer, readHanded, readPlaces, readPhase, readStores, stored, MoveFits, FetchFits, EventFits}
 use Rattle.rules.specs.declared.state.Size.{Size}
 use Rattle.rules.specs.declared.state.Places.{Places}
 use Rattle.rules.specs.declared.state.Counts.{Counts}
 use Rattle.rules.specs.declared.state.WriterPhase.the-variants.{Want}
 use Rattle.rules.specs.declared.state.Writer.{Writer}
 use Rattle.rules.specs.declared.state.Reader.{Reader}
 use Rattle.rules.specs.declared.state.Answer.{Answer}
 use Rattle.rules.specs.declared.state.Answer.the-variants as answer
 use Rattle.rules.specs.declared.state.Action.{Action}
 use Rattle.rules.specs.declared.state.Action.the-variants.{Begin, Write, Read}
-use Rattle.rules.specs.declared.state.State.{State}
 use Rattle.rules.specs.declared.moves.Verdict.{Verdict}
 use Rattle.rules.specs.declared.moves.Verdict.the-variants.{Allowed, Refused}
 use Rattle.rules.specs.declared.moves.Move.{Move}
 use Rattle.rules.specs.declared.moves.Fetch.{Fetch}
-use Rattle.rules.specs.declared.moves.Stores.{Stores}
-use Rattle.rules.specs.declared.moves.Stores.the-variants.{Same}
-use Rattle.rules.specs.declared.moves.Change.{Change}
+use Rattle.ring.specs.declared.pieces.Stores.{Stores}
+use Rattle.ring.specs.declared.pieces.Stores.the-variants.{Same}
+use Rattle.ring.specs.declared.change.Change.{Change}
 
 abbrev pub change : Answer → ℕ → Writer → Counts → Places → ℕ → Reader → Stores → Change
 change a at w counts places depth reader stores =

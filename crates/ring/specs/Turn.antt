@@ -3,24 +3,29 @@
 -- (proofs/turn/Laws), for a ring in shape.
 -- Assumes nothing.
 use mathlib.Core.Path.{_≡_}
-use mathlib.Core.Bool.{true, cond}
+use mathlib.Core.Bool.{Bool, true, cond}
 use mathlib.Core.List.{List}
 use Prim.Native.Nat.{ℕ, _+_, _-_, _≤_, _<_}
 use lib.Dec.{ltb}
+use lib.ListN.{getD}
 use Rattle.rules.specs.Limits.{mostPages, mostSlots, mostCount, mostInRow}
-use Rattle.rules.specs.State.{placesPosition, withPlaces, withHanded, withReader, withWords, withUsed, slotIndex}
+use Rattle.rules.specs.Lists.{tabulate}
+use Rattle.rules.specs.State.{reading, placesPosition, withPlaces, withHanded, withReader, withWords, withUsed, slotIndex, State}
 use Rattle.rules.specs.Shape.{readerFits}
 use Rattle.rules.specs.Read.{readLimit, planReader}
-use Rattle.rules.specs.Pieces.{readAnswer, readPlaces, readPhase, readStores, wordsStored, usedStored, FetchFits, EventFits}
+use Rattle.rules.specs.Drain.{eventNumber}
+use Rattle.ring.specs.Pieces.{readAnswer, readPlaces, readPhase, readStores, wordsStored, usedStored, FetchFits, EventFits}
 use Rattle.rules.specs.declared.state.Size.{Size}
 use Rattle.rules.specs.declared.state.Places.{Places}
 use Rattle.rules.specs.declared.state.Counts.{Counts}
 use Rattle.rules.specs.declared.state.Reader.{Reader}
-use Rattle.rules.specs.declared.state.State.{State}
+use Rattle.rules.specs.declared.state.Refusal.the-variants.{Shape}
+use Rattle.rules.specs.declared.state.Answer.the-variants as answer
+use Rattle.rules.specs.declared.state.Last.{Last}
 use Rattle.rules.specs.declared.state.Last.the-variants.{Given}
 use Rattle.rules.specs.declared.moves.Fetch.{Fetch}
 use Rattle.rules.specs.declared.moves.Fetch.the-variants.{Event, Empty, Busy, Find, Prepare, Swap, Miss}
-use Rattle.rules.specs.declared.moves.Turn.{Turn}
+use Rattle.ring.specs.declared.turn.Turn.{Turn}
 
 -- ---- Events that stand one after the other
 
@@ -38,6 +43,13 @@ eventCount (Find p h) places counts used room = 0
 eventCount (Prepare p h) places counts used room = 0
 eventCount (Swap p h) places counts used room = 0
 eventCount Miss places counts used room = 0
+
+-- the reading i slots after a slot, as it is stored, and so many of them
+abbrev pub eventAt : List ℕ → List ℕ → ℕ → ℕ → ℕ
+eventAt numbers values from i = eventNumber (reading (getD numbers (from + i) 0)) (getD values (from + i) 0)
+
+abbrev pub eventsFrom : List ℕ → List ℕ → ℕ → ℕ → List ℕ
+eventsFrom numbers values from count = tabulate count (eventAt numbers values from)
 
 -- the places before the last Read of the turn
 abbrev pub placesBefore : Places → ℕ → Places
@@ -83,6 +95,10 @@ turned t r =
     withReader (t .reader)
     (withPlaces (t .places)
     (withHanded (t .handed) (withWords (wordsStored (t .stores) (r .words)) (withUsed (usedStored (t .stores) (r .used)) r))))
+
+-- the last answer where the turns end: a Read that is still due is refused, since the ring is out of shape
+abbrev pub lastAfter : Bool → Last → Last
+lastAfter due last = cond due (Given (answer.Refused Shape)) last
 
 -- ---- what the code asks of the pieces: a ring in shape has it (`turn-fits`)
 

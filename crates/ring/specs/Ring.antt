@@ -6,7 +6,7 @@ use lib.ListN.{length}
 use Rattle.rules.specs.Answers.{Outcome, gives}
 use Rattle.rules.specs.Replay.{over}
 use Rattle.rules.specs.Drain.{Drain}
-use Rattle.rules.specs.declared.state.State.{State}
+use Rattle.rules.specs.State.{State}
 use Rattle.ring.specs.declared.state.Ring.{Ring}
 use Rattle.ring.specs.declared.state.Step.{Step}
 use Rattle.ring.specs.declared.state.DrainedInto.{DrainedInto}

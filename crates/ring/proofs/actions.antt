@@ -1,2 +1,0 @@
--- What the proofs about actions as bytes share.
-pub mod Laws

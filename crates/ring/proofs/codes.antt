@@ -1,2 +1,0 @@
--- What the proofs of answers by number share.
-pub mod Laws

@@ -1,0 +1,2 @@
+-- Answers as numbers: the laws of the definition.
+pub mod Laws
