@@ -13,8 +13,8 @@ pub ran-next : {s : Step} {o : Outcome} (i : ℕ) → outcome s ≡ ran i → o 
 unfolding ran
 ran-next i here next =
     let one : suc i ≡ i + 1 = omega arith in
-    next ∙ ap (λ (q : Outcome). nextOn (q .ring) i) here ∙ ap ran one
+    next ∙ ap (λ (q : Outcome). nextOn (q .state) i) here ∙ ap ran one
 
 -- .. and after all of them the step's handed is what the definition says
 pub handed-at : {s : Step} (i k : ℕ) → outcome s ≡ ran i → i ≡ k → stateOf (s .ring) .counts .handed ≡ handedAfter k
-handed-at i k here done = ap (λ (q : Outcome). q .ring .counts .handed) (here ∙ ap ran done)
+handed-at i k here done = ap (λ (q : Outcome). q .state .counts .handed) (here ∙ ap ran done)

@@ -20,8 +20,8 @@ nextOn r i = act r (nextAction (r .depth) (r .counts .handed) (r .counts .commit
 -- the outcome of the first k actions
 unfoldable pub ran : ℕ → Outcome
 ran zero = freshRule 16 16 1
-ran (suc k) = nextOn (ran k .ring) k
+ran (suc k) = nextOn (ran k .state) k
 
 -- how many readings they hand out
 abbrev pub handedAfter : ℕ → ℕ
-handedAfter k = ran k .ring .counts .handed
+handedAfter k = ran k .state .counts .handed

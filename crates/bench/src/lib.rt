@@ -3,10 +3,10 @@
 ghost use mathlib.Core.Path.{_≡_};
 ghost use lib.ListN.{length};
 ghost use Rattle.rules.specs.Drain.{drainRule};
-ghost use Rattle.ring.specs.Ring.{stateOf, drainedInto, laidOut};
+ghost use Rattle.ring.specs.Drain.{bufferAfter};
 ghost use Rattle.bench.specs.Loop.{nextAction, handedAfter};
 ghost use Rattle.trace.specs.Header.{firstAction};
-ghost use Rattle.trace.specs.Replays.{replayedFrom, roomFrom};
+ghost use Rattle.trace.specs.Replays.{replayedFrom, bufferFrom};
 use ring::Action;
 use ring::Ring;
 
@@ -65,10 +65,10 @@ pub extern "C" fn bench_by_act(actions: u32) -> u64
     s.ring.counts.handed
 }
 
-// The replay of a trace, with its answers in the room lent; the answer is how many actions it made.
+// The replay of a trace, with its answers in the buffer lent; the answer is how many actions it made.
 #[no_mangle]
 pub extern "C" fn bench_replay(bytes: &[u8], answers: &mut [u64]) -> usize
-    ensures { λ r. ⌜ (r ≡ replayedFrom (now (bytes .entry)) firstAction (now (answers .entry)) .made) × (now (answers .exit) ≡ roomFrom (now (bytes .entry)) firstAction (now (answers .entry))) ⌝ }
+    ensures { λ r. ⌜ (r ≡ replayedFrom (now (bytes .entry)) firstAction (now (answers .entry)) .made) × (now (answers .exit) ≡ bufferFrom (now (bytes .entry)) firstAction (now (answers .entry))) ⌝ }
 {
     let run = trace::replay(bytes, answers);
     run.made
@@ -80,19 +80,19 @@ pub extern "C" fn bench_replay(bytes: &[u8], answers: &mut [u64]) -> usize
 pub extern "C" fn bench_drain(
     bytes: &[u8],
     answers: &mut [u64],
-    room: &mut [u64],
+    buffer: &mut [u64],
     turns: u32,
 ) -> usize
-    ensures { λ r. ⌜ r ≡ drainedInto (drainRule (stateOf (replayedFrom (now (bytes .entry)) firstAction (now (answers .entry)) .ring)) (length (now (room .entry)))) .count ⌝ }
-    ensures { λ _. ⌜ now (answers .exit) ≡ roomFrom (now (bytes .entry)) firstAction (now (answers .entry)) ⌝ }
-    ensures { λ _. ⌜ now (room .exit) ≡ laidOut (drainRule (stateOf (replayedFrom (now (bytes .entry)) firstAction (now (answers .entry)) .ring)) (length (now (room .entry)))) (now (room .entry)) ⌝ }
+    ensures { λ r. ⌜ r ≡ length (drainRule (replayedFrom (now (bytes .entry)) firstAction (now (answers .entry)) .state) (length (now (buffer .entry))) .events) ⌝ }
+    ensures { λ _. ⌜ now (answers .exit) ≡ bufferFrom (now (bytes .entry)) firstAction (now (answers .entry)) ⌝ }
+    ensures { λ _. ⌜ now (buffer .exit) ≡ bufferAfter (drainRule (replayedFrom (now (bytes .entry)) firstAction (now (answers .entry)) .state) (length (now (buffer .entry)))) (now (buffer .entry)) ⌝ }
 {
     let run = trace::replay(bytes, answers);
     let ring = run.ring;
-    let mut made = ring.drain_into(room);
+    let mut made = ring.drain_into(buffer);
     let mut i: u32 = 1;
     while i < turns {
-        made = ring.drain_into(room);
+        made = ring.drain_into(buffer);
         i = i + 1;
     }
     made.count

@@ -3,7 +3,6 @@ use crate::steps::fresh;
 use ring::Action;
 use ring::Answer;
 use ring::Ring;
-use ring::Step;
 use std::num::wrapping_add_u64;
 use text::Tally;
 

@@ -7,13 +7,13 @@ use crate::digest::fold_last;
 use crate::digest::fold_ring;
 use crate::draws::any;
 use crate::draws::below;
-use ring::DrainedInto;
+use ring::DrainCount;
 use ring::Last;
 use ring::Ring;
 use std::num::wrapping_add_u64;
 use text::Tally;
 
-// How much is lent: few elements every other time, so that a drain often ends with its room used up.
+// How much is lent: few elements every other time, so that a drain often ends with its buffer full.
 fn draw_length(s: &mut u32) -> u32
     ensures { λ r. ⌜ r ≤ 40 ⌝ }
 {
@@ -38,7 +38,7 @@ fn draw_buffer(s: &mut u32) -> [u64; 40] {
 }
 
 // The first n elements are lent.
-fn drain_front(ring: Ring, n: usize, buffer: &mut [u64]) -> DrainedInto
+fn drain_prefix(ring: Ring, n: usize, buffer: &mut [u64]) -> DrainCount
     requires { ⌜ n ≤ length (now buffer) ⌝ }
 {
     ring.drain_into(&mut buffer[..n])
@@ -62,7 +62,7 @@ pub(crate) fn drain(
 ) -> Ring {
     let n = draw_length(s) as usize;
     let mut buffer = draw_buffer(s);
-    let into = drain_front(ring, n, &mut buffer);
+    let into = drain_prefix(ring, n, &mut buffer);
     let last = into.last;
     count_last(last, none, tally);
     let d = fold_buffer(fold_last(*h, last), into.count, &buffer);

@@ -13,7 +13,7 @@ pub struct Loaded {
     pub count: usize,
 }
 
-// Reads until the room is full or the file ends. io::read_full does the same, and does not tell an end from a read that failed.
+// Reads until the buffer is full or the file ends. io::read_full does the same, and does not tell an end from a read that failed.
 fn read_all(fd: i32, bytes: &mut [u8]) -> Loaded
     ensures { λ r. ⌜ Counts (r .count) (now (bytes .exit)) ⌝ }
 {

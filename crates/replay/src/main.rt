@@ -12,10 +12,10 @@ use trace::parts::MOST_LENGTH;
 // Linux passes no longer argument where its memory pages have 4 KiB, so a name is not cut there. A longer one is an empty name, which no file has.
 const NAME: usize = 131072;
 
-// Room for the answers of the longest trace: one to each byte after its front.
+// Room for the answers of the longest trace: one to each byte after its header.
 const ANSWERS: usize = ANSWER_NUMBERS * (MOST_LENGTH - FIRST_ACTION);
 
-fn name_room() -> [u8; NAME]
+fn name_buffer() -> [u8; NAME]
     ensures { λ r. ⌜ 131072 ≡ length r ⌝ }
 {
     [0u8; NAME]
@@ -47,12 +47,12 @@ fn name_line(i: usize, name: &[u8]) {
 
 // The file that argument i names. It has a heading where there are several files.
 fn show_argument(i: usize, several: bool) {
-    let mut room = name_room();
-    let n = os::arg(i, &mut room);
+    let mut buffer = name_buffer();
+    let n = os::arg(i, &mut buffer);
     if several {
-        name_line(i, &room[..n]);
+        name_line(i, &buffer[..n]);
     }
-    show_file(&room[..n]);
+    show_file(&buffer[..n]);
 }
 
 // The program's own name is argument 0.

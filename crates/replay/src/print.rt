@@ -16,7 +16,7 @@ fn code_of(n: u64) -> u32 {
     if n < 4294967295 { n as u32 } else { 4294967295 }
 }
 
-// An answer's three numbers from the room that was lent.
+// An answer's three numbers from the buffer that was lent.
 fn numbers_at(answers: &[u64], at: usize) -> Numbers
     requires { ⌜ at + 3 ≤ length (now answers) ⌝ }
 {
@@ -27,7 +27,7 @@ fn numbers_at(answers: &[u64], at: usize) -> Numbers
     }
 }
 
-// How many answers to print: one to each action made. The room has as many, and the test is there so that no more are read.
+// How many answers to print: one to each action made. The buffer has as many, and the test is there so that no more are read.
 fn answers_in(answers: &[u64], made: usize) -> usize
     ensures { λ r. ⌜ 3 * r ≤ length (now (answers .entry)) ⌝ }
 {

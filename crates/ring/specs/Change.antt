@@ -13,7 +13,7 @@ use Rattle.rules.specs.Refusals.{beginVerdict, writeVerdict}
 use Rattle.rules.specs.Shape.{writerFits, readerFits}
 use Rattle.rules.specs.Write.{planPhase}
 use Rattle.rules.specs.Read.{planReader}
-use Rattle.ring.specs.Pieces.{answerAfter, countsAfter, placesAfter, depthAfter, recordAfter, storesAfter, readAnswer, readHanded, readPlaces, readPhase, readStores, stored, MoveFits, FetchFits, EventFits}
+use Rattle.ring.specs.Pieces.{answerAfter, countsAfter, placesAfter, depthAfter, recordAfter, storesAfter, readAnswer, readHanded, readPlaces, readPhase, readStores, stored, MovePrecondition, FetchPrecondition, EventPrecondition}
 use Rattle.rules.specs.declared.state.Size.{Size}
 use Rattle.rules.specs.declared.state.Places.{Places}
 use Rattle.rules.specs.declared.state.Counts.{Counts}
@@ -104,33 +104,33 @@ changed c r =
     withStack (set (r .stack) (c .at) (c .writer))
     (withCounts (c .counts) (withPlaces (c .places) (withDepth (c .depth) (withReader (c .reader) (stored (c .stores) r)))))
 
--- ---- what the code asks of the pieces: a ring in shape has it (`change-fits`)
+-- ---- what the code asks of the pieces: a ring in shape has it (`change-precondition`)
 
-pub record MovedFits (m : Move) (places : Places) (counts : Counts) (depth : ℕ) : Type 0 where
-  pub move : MoveFits m
+pub record MovedPrecondition (m : Move) (places : Places) (counts : Counts) (depth : ℕ) : Type 0 where
+  pub move : MovePrecondition m
   pub tail : places .tail .0 ≤ mostPages
   pub taken : counts .taken ≤ mostCount
   pub overwritten : counts .overwritten ≤ mostCount
   pub dropped : counts .dropped ≤ mostCount
   pub somebody : 1 ≤ depth
 
-pub record WriteFits (w : Writer) (size : Size) (places : Places) (counts : Counts) (depth : ℕ) (words used : List ℕ) : Type 0 where
+pub record WritePrecondition (w : Writer) (size : Size) (places : Places) (counts : Counts) (depth : ℕ) (words used : List ℕ) : Type 0 where
   pub pages : size .pages ≤ mostPages
   pub tail : places .tail .0 ≤ mostPages
   -- where there is a writer
   pub phase : (depth ≡ 0 → ⊥) → writerFits (w .phase) size ≡ true
-  pub moved : (depth ≡ 0 → ⊥) → MovedFits (planPhase (w .phase) size places depth words used) places counts depth
+  pub moved : (depth ≡ 0 → ⊥) → MovedPrecondition (planPhase (w .phase) size places depth words used) places counts depth
 
-pub record ReadFits (size : Size) (places : Places) (counts : Counts) (reader : Reader) (words used : List ℕ) : Type 0 where
+pub record ReadPrecondition (size : Size) (places : Places) (counts : Counts) (reader : Reader) (words used : List ℕ) : Type 0 where
   pub pages : size .pages ≤ mostPages
   pub page : places .reader .0 ≤ mostPages
   pub position : places .position ≤ mostSlots
   pub handed : counts .handed ≤ mostCount
   pub phase : readerFits (reader .phase) size ≡ true
-  pub fetch : FetchFits (planReader (reader .phase) size places words used)
-  pub event : EventFits (planReader (reader .phase) size places words used) size places
+  pub fetch : FetchPrecondition (planReader (reader .phase) size places words used)
+  pub event : EventPrecondition (planReader (reader .phase) size places words used) size places
 
-abbrev pub ChangeFits : Action → Writer → Size → Places → Counts → ℕ → Reader → List ℕ → List ℕ → Type 0
-ChangeFits (Begin v) w size places counts depth reader words used = (depth ≤ mostDepth) × (counts .begun ≤ mostCount)
-ChangeFits Write w size places counts depth reader words used = WriteFits w size places counts depth words used
-ChangeFits Read w size places counts depth reader words used = ReadFits size places counts reader words used
+abbrev pub ChangePrecondition : Action → Writer → Size → Places → Counts → ℕ → Reader → List ℕ → List ℕ → Type 0
+ChangePrecondition (Begin v) w size places counts depth reader words used = (depth ≤ mostDepth) × (counts .begun ≤ mostCount)
+ChangePrecondition Write w size places counts depth reader words used = WritePrecondition w size places counts depth words used
+ChangePrecondition Read w size places counts depth reader words used = ReadPrecondition size places counts reader words used

@@ -4,5 +4,6 @@ pub mod Pieces
 pub mod Change
 pub mod Turn
 pub mod Replay
-pub mod Drained
+pub mod Drain
+pub mod DrainPart
 pub mod Code

@@ -7,7 +7,7 @@ use mathlib.Core.Path.{_≡_}
 use mathlib.Core.List.{List}
 use Prim.Native.Nat.{ℕ, _+_, _≤_, _<_}
 use lib.ListN.{set}
-use Rattle.rules.specs.Limits.{mostPages, mostSlots, slotRoom, normal, header, update}
+use Rattle.rules.specs.Limits.{mostPages, mostSlots, slotRoom, normalFlag, headerFlag, updateFlag}
 use Rattle.rules.specs.State.{reading, sizeOf, writer, withPlaces, withCounts, withDepth, withReader, withWords, withUsed, withNumbers, withValues, withTaken, withHanded, wordAt, slotIndex, recordAt, setRecord, blank, State}
 use Rattle.rules.specs.Words.{pageIn, wordOf}
 use Rattle.rules.specs.Write.{moved}
@@ -37,26 +37,26 @@ abbrev pub answerAfter : Move → ℕ → Answer
 answerAfter m taken = moved m (withTaken taken empty) .answer
 
 abbrev pub countsAfter : Move → Counts → List ℕ → Counts
-countsAfter m counts used = moved m (withCounts counts (withUsed used empty)) .ring .counts
+countsAfter m counts used = moved m (withCounts counts (withUsed used empty)) .state .counts
 
 abbrev pub placesAfter : Move → Places → List ℕ → Places
-placesAfter m places used = moved m (withPlaces places (withUsed used empty)) .ring .places
+placesAfter m places used = moved m (withPlaces places (withUsed used empty)) .state .places
 
 abbrev pub depthAfter : Move → ℕ → ℕ
-depthAfter m depth = moved m (withDepth depth empty) .ring .depth
+depthAfter m depth = moved m (withDepth depth empty) .state .depth
 
 -- the top record, of a writer with this value
 abbrev pub recordAfter : Move → ℕ → Writer
-recordAfter m value = recordAt (moved m (withDepth 1 (setRecord 0 (writer value Want) empty)) .ring .stack) 0
+recordAfter m value = recordAt (moved m (withDepth 1 (setRecord 0 (writer value Want) empty)) .state .stack) 0
 
 -- the cells that the rule stores to: at most two, each named
 abbrev pub storesAfter : Move → Size → ℕ → ℕ → List ℕ → Stores
 storesAfter (Become next a) size taken value words = stores.Same
 storesAfter (Reserve t slot) size taken value words = stores.Number (slotIndex size t slot) (reading taken) t (slot + 1)
 storesAfter Drop size taken value words = stores.Same
-storesAfter (Mark t n) size taken value words = stores.Take t (wordOf n update) n
-storesAfter (Promote n next) size taken value words = stores.Word n (wordOf (pageIn (wordAt words n)) header)
-storesAfter (Clear t n) size taken value words = stores.Word t (wordOf n normal)
+storesAfter (Mark t n) size taken value words = stores.Take t (wordOf n updateFlag) n
+storesAfter (Promote n next) size taken value words = stores.Word n (wordOf (pageIn (wordAt words n)) headerFlag)
+storesAfter (Clear t n) size taken value words = stores.Word t (wordOf n normalFlag)
 storesAfter (Push n) size taken value words = stores.Same
 storesAfter (Fill p slot) size taken value words = stores.Value (slotIndex size p slot) value
 storesAfter Pend size taken value words = stores.Same
@@ -70,13 +70,13 @@ readAnswer f size places numbers values =
     fetched f (withPlaces places (withNumbers numbers (withValues values (blank size)))) .answer
 
 abbrev pub readHanded : Fetch → ℕ → ℕ
-readHanded f handed = fetched f (withHanded handed empty) .ring .counts .handed
+readHanded f handed = fetched f (withHanded handed empty) .state .counts .handed
 
 abbrev pub readPlaces : Fetch → Places → Places
-readPlaces f places = fetched f (withPlaces places empty) .ring .places
+readPlaces f places = fetched f (withPlaces places empty) .state .places
 
 abbrev pub readPhase : Fetch → Reader → Reader
-readPhase f reader = fetched f (withReader reader empty) .ring .reader
+readPhase f reader = fetched f (withReader reader empty) .state .reader
 
 -- the cells that the rule stores to; `reader` is the reader page
 abbrev pub readStores : Fetch → PageNo → List ℕ → Stores
@@ -84,8 +84,8 @@ readStores fetch.Event reader words = stores.Same
 readStores fetch.Empty reader words = stores.Same
 readStores fetch.Busy reader words = stores.Same
 readStores (fetch.Find p h) reader words = stores.Same
-readStores (fetch.Prepare p h) reader words = stores.Word reader (wordOf (pageIn (wordAt words h)) header)
-readStores (fetch.Swap p h) reader words = stores.Take p (wordOf reader normal) reader
+readStores (fetch.Prepare p h) reader words = stores.Word reader (wordOf (pageIn (wordAt words h)) headerFlag)
+readStores (fetch.Swap p h) reader words = stores.Take p (wordOf reader normalFlag) reader
 readStores fetch.Miss reader words = stores.Same
 
 -- ---- the cells stored to, and what the code asks of what is decided
@@ -126,36 +126,36 @@ stored s r =
     (withUsed (usedStored s (r .used)) (withNumbers (numbersStored s (r .numbers)) (withValues (valuesStored s (r .values)) r)))
 
 -- the cells named are within the arrays
-abbrev pub StoresFit : Stores → Type 0
-StoresFit stores.Same = Unit {0}
-StoresFit (stores.Number at number t used) = (at < slotRoom) × (t .0 ≤ mostPages)
-StoresFit (stores.Take t word n) = (t .0 ≤ mostPages) × (n .0 ≤ mostPages)
-StoresFit (stores.Word p word) = p .0 ≤ mostPages
-StoresFit (stores.Value at value) = at < slotRoom
+abbrev pub StoresPrecondition : Stores → Type 0
+StoresPrecondition stores.Same = Unit {0}
+StoresPrecondition (stores.Number at number t used) = (at < slotRoom) × (t .0 ≤ mostPages)
+StoresPrecondition (stores.Take t word n) = (t .0 ≤ mostPages) × (n .0 ≤ mostPages)
+StoresPrecondition (stores.Word p word) = p .0 ≤ mostPages
+StoresPrecondition (stores.Value at value) = at < slotRoom
 
 -- the pages and slots that a move names are such as the ring has room for: what the code that reads and stores them asks
-abbrev pub MoveFits : Move → Type 0
-MoveFits (Become next a) = Unit {0}
-MoveFits (Reserve t slot) = (t .0 ≤ mostPages) × (slot < mostSlots)
-MoveFits Drop = Unit {0}
-MoveFits (Mark t n) = (t .0 ≤ mostPages) × (n .0 ≤ mostPages)
-MoveFits (Promote n next) = n .0 ≤ mostPages
-MoveFits (Clear t n) = (t .0 ≤ mostPages) × (n .0 ≤ mostPages)
-MoveFits (Push n) = n .0 ≤ mostPages
-MoveFits (Fill p slot) = (p .0 ≤ mostPages) × (slot < mostSlots)
-MoveFits Pend = Unit {0}
-MoveFits Commit = Unit {0}
+abbrev pub MovePrecondition : Move → Type 0
+MovePrecondition (Become next a) = Unit {0}
+MovePrecondition (Reserve t slot) = (t .0 ≤ mostPages) × (slot < mostSlots)
+MovePrecondition Drop = Unit {0}
+MovePrecondition (Mark t n) = (t .0 ≤ mostPages) × (n .0 ≤ mostPages)
+MovePrecondition (Promote n next) = n .0 ≤ mostPages
+MovePrecondition (Clear t n) = (t .0 ≤ mostPages) × (n .0 ≤ mostPages)
+MovePrecondition (Push n) = n .0 ≤ mostPages
+MovePrecondition (Fill p slot) = (p .0 ≤ mostPages) × (slot < mostSlots)
+MovePrecondition Pend = Unit {0}
+MovePrecondition Commit = Unit {0}
 
 -- the pages that a Read names, in the same way
-abbrev pub FetchFits : Fetch → Type 0
-FetchFits fetch.Event = Unit {0}
-FetchFits fetch.Empty = Unit {0}
-FetchFits fetch.Busy = Unit {0}
-FetchFits (fetch.Find p h) = Unit {0}
-FetchFits (fetch.Prepare p h) = h .0 ≤ mostPages
-FetchFits (fetch.Swap p h) = p .0 ≤ mostPages
-FetchFits fetch.Miss = Unit {0}
+abbrev pub FetchPrecondition : Fetch → Type 0
+FetchPrecondition fetch.Event = Unit {0}
+FetchPrecondition fetch.Empty = Unit {0}
+FetchPrecondition fetch.Busy = Unit {0}
+FetchPrecondition (fetch.Find p h) = Unit {0}
+FetchPrecondition (fetch.Prepare p h) = h .0 ≤ mostPages
+FetchPrecondition (fetch.Swap p h) = p .0 ≤ mostPages
+FetchPrecondition fetch.Miss = Unit {0}
 
 -- the slot that an Event tells is one that the ring has room for
-abbrev pub EventFits : Fetch → Size → Places → Type 0
-EventFits f size places = f ≡ fetch.Event → slotIndex size (places .reader) (places .position) < slotRoom
+abbrev pub EventPrecondition : Fetch → Size → Places → Type 0
+EventPrecondition f size places = f ≡ fetch.Event → slotIndex size (places .reader) (places .position) < slotRoom

@@ -1,53 +1,31 @@
--- The rules' state that the code's ring is, and what its calls give back in the rules' terms.
+-- The code's ring as a state of the rules: the one place where its fields are told. The promises of the code are equations about `stateOf`.
 -- Assumes nothing.
-use mathlib.Core.List.{List}
-use Prim.Native.Nat.{ℕ}
-use lib.ListN.{length}
 use Rattle.rules.specs.Answers.{Outcome, gives}
-use Rattle.rules.specs.Replay.{over}
-use Rattle.rules.specs.Drain.{Drain}
-use Rattle.rules.specs.State.{State}
+use Rattle.rules.specs.State.{State, stateWith}
 use Rattle.ring.specs.declared.state.Ring.{Ring}
 use Rattle.ring.specs.declared.state.Step.{Step}
-use Rattle.ring.specs.declared.state.DrainedInto.{DrainedInto}
 
+-- the state that a ring is
 abbrev pub stateOf : Ring → State
 stateOf r =
-    record {
-      size = r .size;
-      places = r .places;
-      counts = r .counts;
-      depth = r .depth;
-      reader = r .reader;
-      stack = r .stack;
-      words = r .words;
-      used = r .used;
-      numbers = r .numbers;
-      values = r .values;
-    }
+    stateWith (r .size) (r .places) (r .counts) (r .depth) (r .reader) (r .stack) (r .words) (r .used) (r .numbers) (r .values)
 
+-- the ring that is a state. Its arrays are of the state's lengths: those of the code's rings have their own.
 abbrev pub ringOf : State → Ring
-ringOf r =
+ringOf s =
     record {
-      size = r .size;
-      places = r .places;
-      counts = r .counts;
-      depth = r .depth;
-      reader = r .reader;
-      stack = r .stack;
-      words = r .words;
-      used = r .used;
-      numbers = r .numbers;
-      values = r .values;
+      size = s .size;
+      places = s .places;
+      counts = s .counts;
+      depth = s .depth;
+      reader = s .reader;
+      stack = s .stack;
+      words = s .words;
+      used = s .used;
+      numbers = s .numbers;
+      values = s .values;
     }
 
 -- the outcome that a step of the code is
 abbrev pub outcome : Step → Outcome
 outcome s = gives (s .answer) (stateOf (s .ring))
-
-abbrev pub drainedInto : Drain → DrainedInto
-drainedInto d = record { ring = ringOf (d .ring); last = d .last; count = length (d .events) }
-
--- the buffer: the events, and "the rest keeps its old contents"
-abbrev pub laidOut : Drain → List ℕ → List ℕ
-laidOut d room = over (d .events) room

@@ -14,7 +14,7 @@ use Rattle.rules.specs.State.{reading, placesPosition, withPlaces, withHanded, 
 use Rattle.rules.specs.Shape.{readerFits}
 use Rattle.rules.specs.Read.{readLimit, planReader}
 use Rattle.rules.specs.Drain.{eventNumber}
-use Rattle.ring.specs.Pieces.{readAnswer, readPlaces, readPhase, readStores, wordsStored, usedStored, FetchFits, EventFits}
+use Rattle.ring.specs.Pieces.{readAnswer, readPlaces, readPhase, readStores, wordsStored, usedStored, FetchPrecondition, EventPrecondition}
 use Rattle.rules.specs.declared.state.Size.{Size}
 use Rattle.rules.specs.declared.state.Places.{Places}
 use Rattle.rules.specs.declared.state.Counts.{Counts}
@@ -32,17 +32,17 @@ use Rattle.ring.specs.declared.turn.Turn.{Turn}
 abbrev pub smaller : ℕ → ℕ → ℕ
 smaller a b = cond (ltb a b) a b
 
--- how many there are: the least of those on the reader page, those that there is room for, and those that the counts allow. The one that makes
+-- how many there are: the least of those on the reader page, those that there is space for, and those that the counts allow. The one that makes
 -- handed + overwritten more than committed is allowed, and is the last: it leaves the ring out of shape.
 abbrev pub eventCount : Fetch → Places → Counts → List ℕ → ℕ → ℕ
-eventCount Event places counts used room =
-    smaller (smaller (readLimit places used - places .position) room) (counts .committed + 1 - (counts .handed + counts .overwritten))
-eventCount Empty places counts used room = 0
-eventCount Busy places counts used room = 0
-eventCount (Find p h) places counts used room = 0
-eventCount (Prepare p h) places counts used room = 0
-eventCount (Swap p h) places counts used room = 0
-eventCount Miss places counts used room = 0
+eventCount Event places counts used space =
+    smaller (smaller (readLimit places used - places .position) space) (counts .committed + 1 - (counts .handed + counts .overwritten))
+eventCount Empty places counts used space = 0
+eventCount Busy places counts used space = 0
+eventCount (Find p h) places counts used space = 0
+eventCount (Prepare p h) places counts used space = 0
+eventCount (Swap p h) places counts used space = 0
+eventCount Miss places counts used space = 0
 
 -- the reading i slots after a slot, as it is stored, and so many of them
 abbrev pub eventAt : List ℕ → List ℕ → ℕ → ℕ → ℕ
@@ -82,12 +82,12 @@ turn f count left size places counts reader words numbers values =
     }
 
 abbrev pub turnBy : ℕ → ℕ → Size → Places → Counts → Reader → List ℕ → List ℕ → List ℕ → List ℕ → Turn
-turnBy left room size places counts reader words used numbers values =
-    turn (planReader (reader .phase) size places words used) (eventCount (planReader (reader .phase) size places words used) places counts used room)
+turnBy left space size places counts reader words used numbers values =
+    turn (planReader (reader .phase) size places words used) (eventCount (planReader (reader .phase) size places words used) places counts used space)
     left size places counts reader words numbers values
 
 abbrev pub turnOf : State → ℕ → ℕ → Turn
-turnOf r left room = turnBy left room (r .size) (r .places) (r .counts) (r .reader) (r .words) (r .used) (r .numbers) (r .values)
+turnOf r left space = turnBy left space (r .size) (r .places) (r .counts) (r .reader) (r .words) (r .used) (r .numbers) (r .values)
 
 -- the pieces stored; a Read stores to words and used alone
 abbrev pub turned : Turn → State → State
@@ -100,23 +100,23 @@ turned t r =
 abbrev pub lastAfter : Bool → Last → Last
 lastAfter due last = cond due (Given (answer.Refused Shape)) last
 
--- ---- what the code asks of the pieces: a ring in shape has it (`turn-fits`)
+-- ---- what the code asks of the pieces: a ring in shape has it (`turn-precondition`)
 
-pub record CountFits (f : Fetch) (places : Places) (counts : Counts) (used : List ℕ) : Type 0 where
+pub record CountPrecondition (f : Fetch) (places : Places) (counts : Counts) (used : List ℕ) : Type 0 where
   pub page : places .reader .0 ≤ mostPages
   pub agree : counts .handed + counts .overwritten ≤ counts .committed
   pub committed : counts .committed ≤ mostCount
   pub here : f ≡ Event → places .position < readLimit places used
 
-pub record TurnFits (left room : ℕ) (size : Size) (places : Places) (counts : Counts) (reader : Reader) (words used : List ℕ) : Type 0 where
+pub record TurnPrecondition (left space : ℕ) (size : Size) (places : Places) (counts : Counts) (reader : Reader) (words used : List ℕ) : Type 0 where
   pub some : 0 < left
   pub pages : size .pages ≤ mostPages
   pub page : places .reader .0 ≤ mostPages
   pub position : places .position ≤ mostSlots
   pub phase : readerFits (reader .phase) size ≡ true
-  pub fetch : FetchFits (planReader (reader .phase) size places words used)
-  pub events : CountFits (planReader (reader .phase) size places words used) places counts used
-  pub few : places .position + eventCount (planReader (reader .phase) size places words used) places counts used room ≤ mostSlots
+  pub fetch : FetchPrecondition (planReader (reader .phase) size places words used)
+  pub events : CountPrecondition (planReader (reader .phase) size places words used) places counts used
+  pub few : places .position + eventCount (planReader (reader .phase) size places words used) places counts used space ≤ mostSlots
   pub event :
-      EventFits (planReader (reader .phase) size places words used) size
-      (placesBefore places (eventCount (planReader (reader .phase) size places words used) places counts used room))
+      EventPrecondition (planReader (reader .phase) size places words used) size
+      (placesBefore places (eventCount (planReader (reader .phase) size places words used) places counts used space))

@@ -3,8 +3,8 @@
 ghost use mathlib.Core.Path.{_≡_};
 ghost use Prim.Native.Nat.{_≤_};
 ghost use Rattle.rules.specs.Limits.{mostDepth, mostCount};
-ghost use Rattle.ring.specs.Pieces.{wordsStored, usedStored, numbersStored, valuesStored, StoresFit};
-ghost use Rattle.ring.specs.Change.{topAt, unchanged, beginChange, movedChange, writeChange, readChange, changeBy, MovedFits, WriteFits, ReadFits, ChangeFits};
+ghost use Rattle.ring.specs.Pieces.{wordsStored, usedStored, numbersStored, valuesStored, StoresPrecondition};
+ghost use Rattle.ring.specs.Change.{topAt, unchanged, beginChange, movedChange, writeChange, readChange, changeBy, MovedPrecondition, WritePrecondition, ReadPrecondition, ChangePrecondition};
 use crate::begin::begin_verdict;
 use crate::cells::wanting;
 use crate::codes::answer_numbers;
@@ -121,7 +121,7 @@ fn moved_change<'a>(
     words: &'a [u32; 17],
     used: &'a [u32; 17],
 ) -> Change
-    requires { ⌜ MovedFits m places counts depth ⌝ }
+    requires { ⌜ MovedPrecondition m places counts depth ⌝ }
     ensures { λ r. ⌜ r ≡ movedChange m w size places counts depth reader (now (words .entry)) (now (used .entry)) ⌝ }
 {
     let top = top_at(depth);
@@ -153,7 +153,7 @@ fn write_change<'a>(
     words: &'a [u32; 17],
     used: &'a [u32; 17],
 ) -> Change
-    requires { ⌜ WriteFits w size places counts depth (now words) (now used) ⌝ }
+    requires { ⌜ WritePrecondition w size places counts depth (now words) (now used) ⌝ }
     ensures { λ r. ⌜ r ≡ writeChange w size places counts depth reader (now (words .entry)) (now (used .entry)) ⌝ }
 {
     if let Verdict::Refused(why) = write_verdict(true, depth) {
@@ -175,7 +175,7 @@ fn read_change<'a>(
     numbers: &'a [u32; 272],
     values: &'a [u32; 272],
 ) -> Change
-    requires { ⌜ ReadFits size places counts reader (now words) (now used) ⌝ }
+    requires { ⌜ ReadPrecondition size places counts reader (now words) (now used) ⌝ }
     ensures { λ r. ⌜ r ≡ readChange w size places counts depth reader (now (words .entry)) (now (used .entry)) (now (numbers .entry)) (now (values .entry)) ⌝ }
 {
     let top = top_at(depth);
@@ -211,7 +211,7 @@ pub(crate) fn change_by<'a>(
     numbers: &'a [u32; 272],
     values: &'a [u32; 272],
 ) -> Change
-    requires { ⌜ ChangeFits action w size places counts depth reader (now words) (now used) ⌝ }
+    requires { ⌜ ChangePrecondition action w size places counts depth reader (now words) (now used) ⌝ }
     ensures { λ r. ⌜ r ≡ changeBy action w size places counts depth reader (now (words .entry)) (now (used .entry)) (now (numbers .entry)) (now (values .entry)) ⌝ }
 {
     match action {
@@ -235,7 +235,7 @@ pub(crate) fn change_by<'a>(
 // ---- the cells that an action stores to, an array at a time
 
 pub(crate) fn store_words(words: &mut [u32; 17], s: Stores)
-    requires { ⌜ StoresFit s ⌝ }
+    requires { ⌜ StoresPrecondition s ⌝ }
     ensures { λ _. ⌜ now (words .exit) ≡ wordsStored s (now (words .entry)) ⌝ }
 {
     match s {
@@ -246,7 +246,7 @@ pub(crate) fn store_words(words: &mut [u32; 17], s: Stores)
 }
 
 pub(crate) fn store_used(used: &mut [u32; 17], s: Stores)
-    requires { ⌜ StoresFit s ⌝ }
+    requires { ⌜ StoresPrecondition s ⌝ }
     ensures { λ _. ⌜ now (used .exit) ≡ usedStored s (now (used .entry)) ⌝ }
 {
     match s {
@@ -257,7 +257,7 @@ pub(crate) fn store_used(used: &mut [u32; 17], s: Stores)
 }
 
 pub(crate) fn store_numbers(numbers: &mut [u32; 272], s: Stores)
-    requires { ⌜ StoresFit s ⌝ }
+    requires { ⌜ StoresPrecondition s ⌝ }
     ensures { λ _. ⌜ now (numbers .exit) ≡ numbersStored s (now (numbers .entry)) ⌝ }
 {
     match s {
@@ -267,7 +267,7 @@ pub(crate) fn store_numbers(numbers: &mut [u32; 272], s: Stores)
 }
 
 pub(crate) fn store_values(values: &mut [u32; 272], s: Stores)
-    requires { ⌜ StoresFit s ⌝ }
+    requires { ⌜ StoresPrecondition s ⌝ }
     ensures { λ _. ⌜ now (values .exit) ≡ valuesStored s (now (values .entry)) ⌝ }
 {
     match s {

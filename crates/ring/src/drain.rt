@@ -9,15 +9,16 @@ ghost use lib.Seq.{sets};
 ghost use Rattle.rules.specs.Limits.{slotRoom, mostCount, mostInRow};
 ghost use Rattle.rules.specs.State.{reading};
 ghost use Rattle.rules.specs.Shape.{inShape};
-ghost use Rattle.rules.specs.Drain.{eventNumber, drained, drainRule};
+ghost use Rattle.rules.specs.Drain.{eventNumber, drainReads, drainRule};
 ghost use Rattle.ring.specs.Turn.{eventsFrom, lastAfter};
-ghost use Rattle.ring.specs.Ring.{drainedInto, laidOut, stateOf};
+ghost use Rattle.ring.specs.Ring.{stateOf};
+ghost use Rattle.ring.specs.Drain.{Counted, bufferAfter};
 ghost use Rattle.rules.specs.declared.state.Last.the-variants.{None};
 use crate::change::store_used;
 use crate::change::store_words;
 use crate::shape::counts_fit;
 use crate::shape::layout_fits;
-use crate::state::DrainedInto;
+use crate::state::DrainCount;
 use crate::state::Ring;
 use crate::turn::turn_by;
 use rules::state::Answer;
@@ -34,22 +35,22 @@ fn event_number(number: u32, value: u32) -> u64
     (number as u64) * TWO_32 + (value as u64)
 }
 
-// The readings of some slots, from slot `from` on, laid in the room from `at` on.
+// The readings of some slots, from slot `from` on, laid in the buffer from `at` on.
 fn lay_events<'a>(
-    room: &mut [u64],
+    buffer: &mut [u64],
     at: usize,
     from: usize,
     count: usize,
     numbers: &'a [u32; 272],
     values: &'a [u32; 272],
 )
-    requires { ⌜ (at + count ≤ length (now room)) × (from + count ≤ slotRoom) ⌝ }
-    ensures { λ _. ⌜ now (room .exit) ≡ sets (now (room .entry)) at (eventsFrom (now (numbers .entry)) (now (values .entry)) from count) ⌝ }
+    requires { ⌜ (at + count ≤ length (now buffer)) × (from + count ≤ slotRoom) ⌝ }
+    ensures { λ _. ⌜ now (buffer .exit) ≡ sets (now (buffer .entry)) at (eventsFrom (now (numbers .entry)) (now (values .entry)) from count) ⌝ }
 {
     let mut i: usize = 0;
     while i < count {
         let slot = from + i;
-        room[at + i] = event_number(numbers[slot], values[slot]);
+        buffer[at + i] = event_number(numbers[slot], values[slot]);
         i = i + 1;
     }
 }
@@ -75,11 +76,11 @@ fn last_after(due: bool, last: Last) -> Last
 
 impl Ring {
     // The Reads of a ring in shape.
-    fn drain_shaped(mut self, room: &mut [u64]) -> DrainedInto
+    fn drain_shaped(mut self, buffer: &mut [u64]) -> DrainCount
         requires { ⌜ inShape (stateOf self) ≡ true ⌝ }
-        ensures { λ r. ⌜ (r ≡ drainedInto (drained mostInRow (length (now (room .entry))) (stateOf self) None)) × (now (room .exit) ≡ laidOut (drained mostInRow (length (now (room .entry))) (stateOf self) None) (now (room .entry))) ⌝ }
+        ensures { λ r. ⌜ Counted (drainReads mostInRow (length (now (buffer .entry))) (stateOf self) None) r × (now (buffer .exit) ≡ bufferAfter (drainReads mostInRow (length (now (buffer .entry))) (stateOf self) None) (now (buffer .entry))) ⌝ }
     {
-        let most = room.len();
+        let most = buffer.len();
         let mut at: usize = 0;
         let mut left: u32 = Ring::MOST_IN_ROW;
         let mut last = Last::None;
@@ -96,7 +97,7 @@ impl Ring {
                 &self.numbers,
                 &self.values,
             );
-            lay_events(room, at, t.from, t.count, &self.numbers, &self.values);
+            lay_events(buffer, at, t.from, t.count, &self.numbers, &self.values);
             let places = t.places;
             let reader = t.reader;
             let stores = t.stores;
@@ -109,18 +110,18 @@ impl Ring {
             left = t.left;
             last = t.last;
         }
-        DrainedInto {
+        DrainCount {
             ring: self,
             last: last_after((at < most) & (0 < left), last),
             count: at,
         }
     }
 
-    // Reads, until the room is full, an answer is Empty, Busy or a refusal, or MOST_IN_ROW of them in a row have brought none of these and no
-    // Event. The Events are the first `count` elements of the room, each as number * 2^32 + value; the rest keeps its contents. A ring out of
-    // shape is refused with SHAPE, whatever the room's length.
-    pub fn drain_into(self, room: &mut [u64]) -> DrainedInto
-        ensures { λ r. ⌜ (r ≡ drainedInto (drainRule (stateOf self) (length (now (room .entry))))) × (now (room .exit) ≡ laidOut (drainRule (stateOf self) (length (now (room .entry)))) (now (room .entry))) ⌝ }
+    // Reads, until the buffer is full, an answer is Empty, Busy or a refusal, or MOST_IN_ROW of them in a row have brought none of these and no
+    // Event. The Events are the first `count` elements of the buffer, each as number * 2^32 + value; the rest keeps its contents. A ring out of
+    // shape is refused with SHAPE, whatever the buffer's length.
+    pub fn drain_into(self, buffer: &mut [u64]) -> DrainCount
+        ensures { λ r. ⌜ Counted (drainRule (stateOf self) (length (now (buffer .entry)))) r × (now (buffer .exit) ≡ bufferAfter (drainRule (stateOf self) (length (now (buffer .entry)))) (now (buffer .entry))) ⌝ }
     {
         let size = self.size;
         let places = self.places;
@@ -130,12 +131,12 @@ impl Ring {
         let fit = counts_fit(self.counts)
             & layout_fits(size, places, reader, stack, depth, &self.words, &self.used);
         if !fit {
-            return DrainedInto {
+            return DrainCount {
                 ring: self,
                 last: Last::Given(Answer::Refused(Refusal::Shape)),
                 count: 0,
             };
         }
-        self.drain_shaped(room)
+        self.drain_shaped(buffer)
     }
 }

@@ -17,12 +17,12 @@ pub mod change; // what an action of any kind stores
 pub mod replay; // actions in bytes, made one by one in place
 pub mod turn; // what some Reads in a row store
 pub mod drain; // Reads in a row, their Events in a buffer that is lent
-pub mod drained; // the same, with the part that is filled handed back
+pub mod drain_part; // the same, with the part that is filled handed back
 
 // what a caller names
 pub use actions::action_at;
 pub use codes::answer_numbers;
-pub use drained::Drained;
+pub use drain_part::DrainPart;
 pub use rules::actions::Coded;
 pub use rules::codes::Numbers;
 pub use rules::state::Action;
@@ -32,7 +32,7 @@ pub use rules::state::PageNo;
 pub use rules::state::ReadingNo;
 pub use rules::state::Receipt;
 pub use rules::state::Refusal;
-pub use state::DrainedInto;
+pub use state::DrainCount;
 pub use state::Replay;
 pub use state::Ring;
 pub use state::Step;

@@ -2,7 +2,7 @@
 ghost use mathlib.Core.Path.{_≡_};
 ghost use Prim.Native.Nat.{_≤_};
 ghost use Rattle.rules.specs.Limits.{mostPages, mostSlots, mostCount};
-ghost use Rattle.ring.specs.Pieces.{answerAfter, recordAfter, countsAfter, placesAfter, depthAfter, storesAfter, MoveFits, readAnswer, readHanded, readPlaces, readPhase, readStores, FetchFits, EventFits};
+ghost use Rattle.ring.specs.Pieces.{answerAfter, recordAfter, countsAfter, placesAfter, depthAfter, storesAfter, MovePrecondition, readAnswer, readHanded, readPlaces, readPhase, readStores, FetchPrecondition, EventPrecondition};
 use crate::cells::slot_index;
 use crate::cells::used_at;
 use crate::cells::wanting;
@@ -76,9 +76,9 @@ pub(crate) fn record_after(m: Move, value: u32) -> Writer
     Writer { value, phase }
 }
 
-// The loss is counted at the mark: by the push another writer may have pushed. A sum past its limit is kept, and 64 bits hold it.
+// The loss is Counted at the mark: by the push another writer may have pushed. A sum past its limit is kept, and 64 bits hold it.
 pub(crate) fn counts_after(m: Move, counts: Counts, used: &[u32; 17]) -> Counts
-    requires { ⌜ MoveFits m × (counts .taken ≤ mostCount) × (counts .overwritten ≤ mostCount) × (counts .dropped ≤ mostCount) ⌝ }
+    requires { ⌜ MovePrecondition m × (counts .taken ≤ mostCount) × (counts .overwritten ≤ mostCount) × (counts .dropped ≤ mostCount) ⌝ }
     ensures { λ r. ⌜ r ≡ countsAfter m counts (now (used .entry)) ⌝ }
 {
     let mut next = counts;
@@ -126,7 +126,7 @@ pub(crate) fn depth_after(m: Move, depth: u32) -> u32
 
 // The cells that the rule stores to.
 pub(crate) fn stores_after(m: Move, size: Size, taken: u64, value: u32, words: &[u32; 17]) -> Stores
-    requires { ⌜ MoveFits m × (taken ≤ mostCount) ⌝ }
+    requires { ⌜ MovePrecondition m × (taken ≤ mostCount) ⌝ }
     ensures { λ r. ⌜ r ≡ storesAfter m size taken value (now (words .entry)) ⌝ }
 {
     match m {
@@ -167,7 +167,7 @@ pub(crate) fn read_answer<'a>(
     numbers: &'a [u32; 272],
     values: &'a [u32; 272],
 ) -> Answer
-    requires { ⌜ EventFits f size places ⌝ }
+    requires { ⌜ EventPrecondition f size places ⌝ }
     ensures { λ r. ⌜ r ≡ readAnswer f size places (now (numbers .entry)) (now (values .entry)) ⌝ }
 {
     match f {
@@ -230,7 +230,7 @@ pub(crate) fn read_phase(f: Fetch, reader: Reader) -> Reader
 
 // The cells that the rule stores to; `page` is the reader page. A swap empties it: it goes back into the ring.
 pub(crate) fn read_stores(f: Fetch, page: PageNo, words: &[u32; 17]) -> Stores
-    requires { ⌜ FetchFits f × (page .0 ≤ mostPages) ⌝ }
+    requires { ⌜ FetchPrecondition f × (page .0 ≤ mostPages) ⌝ }
     ensures { λ r. ⌜ r ≡ readStores f page (now (words .entry)) ⌝ }
 {
     match f {

@@ -5,8 +5,8 @@ ghost use Prim.Native.Nat.{_+_, _*_, _<_, _≤_};
 ghost use lib.ListN.{length};
 ghost use Rattle.rules.specs.Actions.{decoded};
 ghost use Rattle.rules.specs.declared.state.Answer.the-variants.{Accepted};
-ghost use Rattle.rules.specs.Replay.{laidAt, answerNumbers, ranRoom, roomRule, Reached};
-ghost use Rattle.ring.specs.Replay.{replay, refusedReplay, ran, replayRule};
+ghost use Rattle.rules.specs.Replay.{answerNumbers, ranBuffer, replayed, refusedReplay, ran, replayRule, bufferRule, Reached};
+ghost use Rattle.ring.specs.Replay.{replayOutcome, laidAt};
 ghost use Rattle.ring.specs.Ring.{stateOf};
 use crate::actions::action_at;
 use crate::change::change_by;
@@ -22,22 +22,22 @@ use rules::codes::Numbers;
 use rules::state::Answer;
 use rules::state::Refusal;
 
-// How many numbers an answer takes in the room lent.
+// How many numbers an answer takes in the buffer lent.
 pub const ANSWER_NUMBERS: usize = 3;
 
 // An answer as numbers, from a place on.
-fn lay_answer(room: &mut [u64], at: usize, n: Numbers)
-    requires { ⌜ at + 2 < length (now room) ⌝ }
-    ensures { λ _. ⌜ now (room .exit) ≡ laidAt (now (room .entry)) at n ⌝ }
+fn lay_answer(buffer: &mut [u64], at: usize, n: Numbers)
+    requires { ⌜ at + 2 < length (now buffer) ⌝ }
+    ensures { λ _. ⌜ now (buffer .exit) ≡ laidAt (now (buffer .entry)) at n ⌝ }
 {
-    room[at] = n.code as u64;
-    room[at + 1] = n.first;
-    room[at + 2] = n.second;
+    buffer[at] = n.code as u64;
+    buffer[at + 1] = n.first;
+    buffer[at + 2] = n.second;
 }
 
 // Refused before the first action: the plain ring.
 pub fn refused_replay(why: Refusal) -> Replay
-    ensures { λ r. ⌜ r ≡ refusedReplay why ⌝ }
+    ensures { λ r. ⌜ replayOutcome r ≡ refusedReplay why ⌝ }
 {
     let ring = Ring::plain();
     Replay {
@@ -50,7 +50,7 @@ pub fn refused_replay(why: Refusal) -> Replay
 
 // All was made that could be.
 fn ended(ring: Ring, made: usize, stop: usize) -> Replay
-    ensures { λ r. ⌜ r ≡ replay (stateOf ring) Accepted made stop ⌝ }
+    ensures { λ r. ⌜ replayOutcome r ≡ replayed (stateOf ring) Accepted made stop ⌝ }
 {
     Replay {
         ring,
@@ -62,9 +62,9 @@ fn ended(ring: Ring, made: usize, stop: usize) -> Replay
 
 impl Ring {
     // All the whole actions from the first byte on.
-    fn run(mut self, bytes: &[u8], room: &mut [u64]) -> Replay
-        requires { ⌜ Reached (stateOf self) × (answerNumbers * length (now bytes) ≤ length (now room)) ⌝ }
-        ensures { λ r. ⌜ (r ≡ ran (stateOf self) (decoded (now (bytes .entry)))) × (now (room .exit) ≡ ranRoom (stateOf self) (decoded (now (bytes .entry))) (now (room .entry))) ⌝ }
+    fn run(mut self, bytes: &[u8], buffer: &mut [u64]) -> Replay
+        requires { ⌜ Reached (stateOf self) × (answerNumbers * length (now bytes) ≤ length (now buffer)) ⌝ }
+        ensures { λ r. ⌜ (replayOutcome r ≡ ran (stateOf self) (decoded (now (bytes .entry)))) × (now (buffer .exit) ≡ ranBuffer (stateOf self) (decoded (now (bytes .entry))) (now (buffer .entry))) ⌝ }
     {
         let mut at: usize = 0;
         let mut made: usize = 0;
@@ -83,7 +83,7 @@ impl Ring {
                 &self.numbers,
                 &self.values,
             );
-            lay_answer(room, ANSWER_NUMBERS * made, c.answer);
+            lay_answer(buffer, ANSWER_NUMBERS * made, c.answer);
             let place = c.at;
             let writer = c.writer;
             let counts = c.counts;
@@ -106,18 +106,18 @@ impl Ring {
     }
 
     // The actions of `bytes` on the ring of a set-up, up to the first that is unknown or cut: `stop` says where, and the answer is Accepted there too.
-    // Their answers are in the room lent, ANSWER_NUMBERS numbers each. Refused with SETUP where `fresh` refuses, and with ROOM where the room has no
+    // Their answers are in the buffer lent, ANSWER_NUMBERS numbers each. Refused with SETUP where `fresh` refuses, and with ROOM where the buffer has no
     // place for an answer to each byte: there may be as many actions.
-    pub fn replay(pages: u32, slots: u32, mode: u32, bytes: &[u8], room: &mut [u64]) -> Replay
-        ensures { λ r. ⌜ (r ≡ replayRule pages slots mode (now (bytes .entry)) (now (room .entry))) × (now (room .exit) ≡ roomRule pages slots mode (now (bytes .entry)) (now (room .entry))) ⌝ }
+    pub fn replay(pages: u32, slots: u32, mode: u32, bytes: &[u8], buffer: &mut [u64]) -> Replay
+        ensures { λ r. ⌜ (replayOutcome r ≡ replayRule pages slots mode (now (bytes .entry)) (now (buffer .entry))) × (now (buffer .exit) ≡ bufferRule pages slots mode (now (bytes .entry)) (now (buffer .entry))) ⌝ }
     {
         if !Ring::accepts(pages, slots, mode) {
             return refused_replay(Refusal::SetUp);
         }
-        if room.len() / ANSWER_NUMBERS < bytes.len() {
+        if buffer.len() / ANSWER_NUMBERS < bytes.len() {
             return refused_replay(Refusal::Room);
         }
         let first = Ring::fresh(pages, slots, mode);
-        first.ring.run(bytes, room)
+        first.ring.run(bytes, buffer)
     }
 }

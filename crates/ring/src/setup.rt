@@ -4,7 +4,7 @@ ghost use Prim.Native.Nat.{_≤_};
 ghost use Rattle.rules.specs.Limits.{mostPages};
 ghost use Rattle.rules.specs.State.{sizeOf, blank};
 ghost use Rattle.rules.specs.Shape.{sizeFits};
-ghost use Rattle.ring.specs.Ring.{outcome, ringOf};
+ghost use Rattle.ring.specs.Ring.{outcome, stateOf};
 ghost use Rattle.rules.specs.SetUp.{freshNext, freshFlag, freshWord, freshWords, freshRing, plainRing, freshRule};
 use crate::cells::wanting;
 use crate::shape::size_fits;
@@ -65,7 +65,7 @@ fn fresh_words(n: u32) -> [u32; 17]
 impl Ring {
     // A ring of zeros.
     fn blank(size: Size) -> Ring
-        ensures { λ r. ⌜ r ≡ ringOf (blank size) ⌝ }
+        ensures { λ r. ⌜ stateOf r ≡ blank size ⌝ }
     {
         let no_writer = wanting(0);
         let stack = [no_writer; 4];
@@ -103,7 +103,7 @@ impl Ring {
 
     // The fresh ring of a size.
     fn fresh_ring(size: Size) -> Ring
-        ensures { λ r. ⌜ r ≡ ringOf (freshRing size) ⌝ }
+        ensures { λ r. ⌜ stateOf r ≡ freshRing size ⌝ }
     {
         let words = fresh_words(size.pages);
         let mut ring = Ring::blank(size);
@@ -117,7 +117,7 @@ impl Ring {
 
     // 8 pages of 16 slots in overwrite mode.
     pub fn plain() -> Ring
-        ensures { λ r. ⌜ r ≡ ringOf plainRing ⌝ }
+        ensures { λ r. ⌜ stateOf r ≡ plainRing ⌝ }
     {
         Ring::fresh_ring(Size {
             pages: Ring::PLAIN_PAGES,

@@ -7,7 +7,7 @@ use rules::state::Reader;
 use rules::state::Size;
 use rules::state::Writer;
 
-// The ring. Arrays have room for 17 pages of 16 slots; slot s of page p stands at p * S + s.
+// The ring. Arrays have buffer for 17 pages of 16 slots; slot s of page p stands at p * S + s.
 pub struct Ring {
     pub size: Size,
     pub places: Places,
@@ -32,7 +32,7 @@ pub struct Step {
     pub answer: Answer,
 }
 
-// What a replay of actions gives back; their answers are in the room that was lent.
+// What a replay of actions gives back; their answers are in the buffer that was lent.
 pub struct Replay {
     // after the last action made; the plain ring where the replay was refused before the first
     pub ring: Ring,
@@ -45,7 +45,7 @@ pub struct Replay {
 }
 
 // What a drain gives back beside the elements that it stored: they are the first `count` of the buffer that was lent.
-pub struct DrainedInto {
+pub struct DrainCount {
     pub ring: Ring,
     pub last: Last,
     pub count: usize,

@@ -3,7 +3,7 @@
 ghost use mathlib.Core.Path.{_≡_};
 ghost use Prim.Native.Nat.{_<_, _≤_};
 ghost use Rattle.rules.specs.Limits.{mostSlots};
-ghost use Rattle.ring.specs.Turn.{smaller, eventCount, placesBefore, leftAfter, turnBy, CountFits, TurnFits};
+ghost use Rattle.ring.specs.Turn.{smaller, eventCount, placesBefore, leftAfter, turnBy, CountPrecondition, TurnPrecondition};
 use crate::cells::slot_index;
 use crate::pieces::Stores;
 use crate::pieces::read_answer;
@@ -41,17 +41,17 @@ fn smaller(a: usize, b: usize) -> usize
     if a < b { a } else { b }
 }
 
-// How many Events come one after the other: the least of those on the reader page, those that there is room for, and those that the counts
+// How many Events come one after the other: the least of those on the reader page, those that there is space for, and those that the counts
 // allow. The one that makes handed + overwritten more than committed is allowed, and is the last: it leaves the ring out of shape.
-fn event_count(f: Fetch, places: Places, counts: Counts, used: &[u32; 17], room: usize) -> usize
-    requires { ⌜ CountFits f places counts (now used) ⌝ }
-    ensures { λ r. ⌜ r ≡ eventCount f places counts (now (used .entry)) room ⌝ }
+fn event_count(f: Fetch, places: Places, counts: Counts, used: &[u32; 17], space: usize) -> usize
+    requires { ⌜ CountPrecondition f places counts (now used) ⌝ }
+    ensures { λ r. ⌜ r ≡ eventCount f places counts (now (used .entry)) space ⌝ }
 {
     match f {
         Fetch::Event => {
             let here = read_limit(places, used) - places.position;
             let allowed = counts.committed + 1 - (counts.handed + counts.overwritten);
-            smaller(smaller(here as usize, room), allowed as usize)
+            smaller(smaller(here as usize, space), allowed as usize)
         }
         _ => 0,
     }
@@ -85,7 +85,7 @@ fn left_after(f: Fetch, left: u32) -> u32
 // Which rule applies, how many Events come of it, and what these Reads leave in each piece.
 pub(crate) fn turn_by<'a>(
     left: u32,
-    room: usize,
+    space: usize,
     size: Size,
     places: Places,
     counts: Counts,
@@ -95,11 +95,11 @@ pub(crate) fn turn_by<'a>(
     numbers: &'a [u32; 272],
     values: &'a [u32; 272],
 ) -> Turn
-    requires { ⌜ TurnFits left room size places counts reader (now words) (now used) ⌝ }
-    ensures { λ r. ⌜ r ≡ turnBy left room size places counts reader (now (words .entry)) (now (used .entry)) (now (numbers .entry)) (now (values .entry)) ⌝ }
+    requires { ⌜ TurnPrecondition left space size places counts reader (now words) (now used) ⌝ }
+    ensures { λ r. ⌜ r ≡ turnBy left space size places counts reader (now (words .entry)) (now (used .entry)) (now (numbers .entry)) (now (values .entry)) ⌝ }
 {
     let f = plan_reader(reader, size, places, words, used);
-    let count = event_count(f, places, counts, used, room);
+    let count = event_count(f, places, counts, used, space);
     let from = slot_index(size, places.reader, places.position);
     let before = places_before(places, count);
     let answer = read_answer(f, size, before, numbers, values);

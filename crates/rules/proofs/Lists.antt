@@ -150,13 +150,13 @@ module _ (f : ℕ → ℕ) where
 
 -- ---- a run of stores, and one more
 
-pub sets-more : (xs room : List ℕ) (from x k : ℕ) → k ≡ length xs → sets room from (xs ++ (x ∷ [])) ≡ set (sets room from xs) (from + k) x
-sets-more [] room from x k e =
+pub sets-more : (xs buffer : List ℕ) (from x k : ℕ) → k ≡ length xs → sets buffer from (xs ++ (x ∷ [])) ≡ set (sets buffer from xs) (from + k) x
+sets-more [] buffer from x k e =
     let here : from ≡ from + k = omega arith in
-    ap (λ (j : ℕ). set room j x) here
-sets-more (y ∷ xs) room from x k e =
+    ap (λ (j : ℕ). set buffer j x) here
+sets-more (y ∷ xs) buffer from x k e =
     let there : suc from + (k - 1) ≡ from + k = omega arith in
-    sets-more xs (set room from y) (suc from) x (k - 1) (omega arith) ∙ ap (λ (j : ℕ). set (sets (set room from y) (suc from) xs) j x) there
+    sets-more xs (set buffer from y) (suc from) x (k - 1) (omega arith) ∙ ap (λ (j : ℕ). set (sets (set buffer from y) (suc from) xs) j x) there
 
 -- ---- a list of zeros
 

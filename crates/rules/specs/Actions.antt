@@ -36,12 +36,12 @@ abbrev pub byteAt : List ℕ → ℕ → ℕ
 byteAt bytes i = getD bytes i 0
 
 -- the value of a Begin that stands at a place
-abbrev pub valueAt : List ℕ → ℕ → ℕ
-valueAt bytes at = valueOf (byteAt bytes (at + 1)) (byteAt bytes (at + 2)) (byteAt bytes (at + 3)) (byteAt bytes (at + 4))
+abbrev pub beginValue : List ℕ → ℕ → ℕ
+beginValue bytes at = valueOf (byteAt bytes (at + 1)) (byteAt bytes (at + 2)) (byteAt bytes (at + 3)) (byteAt bytes (at + 4))
 
 -- a Begin, which may be cut
 abbrev pub beginAt : List ℕ → ℕ → Coded
-beginAt bytes at = cond (ltb (length bytes - at) beginLength) Broken (Whole (Begin (valueAt bytes at)) (at + beginLength))
+beginAt bytes at = cond (ltb (length bytes - at) beginLength) Broken (Whole (Begin (beginValue bytes at)) (at + beginLength))
 
 -- what stands at a place: nothing, a whole action with the place after it, or "an unknown or cut action"
 abbrev pub codedAt : List ℕ → ℕ → Coded
@@ -62,11 +62,11 @@ pub record Decoded : Type 0 where
 abbrev pub stopped : ℕ → Decoded
 stopped at = record { actions = []; stop = at }
 
-abbrev pub before : Action → Decoded → Decoded
-before a d = record { actions = a ∷ d .actions; stop = d .stop }
+abbrev pub actionFirst : Action → Decoded → Decoded
+actionFirst a d = record { actions = a ∷ d .actions; stop = d .stop }
 
 abbrev pub goOn : Coded → (ℕ → Decoded) → ℕ → Decoded
-goOn (Whole a next) rest at = before a (rest next)
+goOn (Whole a next) rest at = actionFirst a (rest next)
 goOn Broken rest at = stopped at
 goOn End rest at = stopped at
 
@@ -91,7 +91,7 @@ Stops End = Unit {0}
 -- what holds of the actions from a place on (`decodes`, proofs/actions/Laws): a whole action comes first, where none stands there is none, and they stop where no
 -- whole action stands: at the end of the bytes, or else at "an unknown or cut action"
 pub record Decodes (bytes : List ℕ) (at : ℕ) : Type 0 where
-  pub whole : (a : Action) (next : ℕ) → codedAt bytes at ≡ Whole a next → decodedFrom bytes at ≡ before a (decodedFrom bytes next)
+  pub whole : (a : Action) (next : ℕ) → codedAt bytes at ≡ Whole a next → decodedFrom bytes at ≡ actionFirst a (decodedFrom bytes next)
   pub none : Stops (codedAt bytes at) → decodedFrom bytes at ≡ stopped at
   pub within : at ≤ length bytes → decodedFrom bytes at .stop ≤ length bytes
   pub ended : at ≤ length bytes → decodedFrom bytes at .stop ≡ length bytes → codedAt bytes (decodedFrom bytes at .stop) ≡ End

@@ -59,9 +59,9 @@ told (Refused why) = record { refusal = numberOf why; values = [] }
 
 -- "Each action takes a ring and gives the ring back, with an answer": these two, and what the answer tells.
 pub record Outcome : Type 0 where
-  pub ring : State
+  pub state : State
   pub answer : Answer
   pub tells : Told
 
 abbrev pub gives : Answer → State → Outcome
-gives answer r = record { ring = r; answer = answer; tells = told answer }
+gives answer r = record { state = r; answer = answer; tells = told answer }

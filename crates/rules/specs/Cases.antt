@@ -57,13 +57,13 @@ from pages slots mode rows = record { pages = pages; slots = slots; mode = mode;
 
 -- a fact, as it is of the last outcome
 abbrev pub seen : Fact → Outcome → Fact
-seen (Words ws) o = Words (take (o .ring .size .pages + 1) (o .ring .words))
-seen (ReaderPage p) o = ReaderPage (o .ring .places .reader .0)
-seen (CommitAt p i) o = CommitAt (o .ring .places .commit .0) (o .ring .places .index)
-seen (OverwrittenIs k) o = OverwrittenIs (o .ring .counts .overwritten)
-seen (CommittedIs k) o = CommittedIs (o .ring .counts .committed)
-seen (DepthIs d) o = DepthIs (o .ring .depth)
-seen (ReceiptIs t) o = ReceiptIs (receiptRule (o .ring))
+seen (Words ws) o = Words (take (o .state .size .pages + 1) (o .state .words))
+seen (ReaderPage p) o = ReaderPage (o .state .places .reader .0)
+seen (CommitAt p i) o = CommitAt (o .state .places .commit .0) (o .state .places .index)
+seen (OverwrittenIs k) o = OverwrittenIs (o .state .counts .overwritten)
+seen (CommittedIs k) o = CommittedIs (o .state .counts .committed)
+seen (DepthIs d) o = DepthIs (o .state .depth)
+seen (ReceiptIs t) o = ReceiptIs (receiptRule (o .state))
 seen (RefusalIs k) o = RefusalIs (o .tells .refusal)
 
 abbrev pub allSeen : List Fact → Outcome → List Fact
@@ -78,7 +78,7 @@ pub record Played : Type 0 where
 abbrev pub play : Outcome → List Action → Played
 play o [] = record { answers = []; last = o }
 play o (a ∷ rest) =
-    let next = act (o .ring) a in
+    let next = act (o .state) a in
     let p = play next rest in
     record { answers = next .answer ∷ p .answers; last = p .last }
 

@@ -8,7 +8,7 @@ use mathlib.Core.List.{List, [], _∷_}
 use Prim.Native.Nat.{ℕ, zero, suc, _+_, _≤_, _<_}
 use lib.Dec.{eqb}
 use lib.ListN.{length, getD}
-use Rattle.rules.specs.Limits.{mostDepth, mostCount, header, update}
+use Rattle.rules.specs.Limits.{mostDepth, mostCount, headerFlag, updateFlag}
 use Rattle.rules.specs.Lists.{first}
 use Rattle.rules.specs.State.{wordAt, usedAt, numberAt, valueAt, State}
 use Rattle.rules.specs.Words.{pageIn, flagIn}
@@ -16,7 +16,7 @@ use Rattle.rules.specs.Shape.{inShape}
 use Rattle.rules.specs.SetUp.{freshRule}
 use Rattle.rules.specs.Receipt.{receiptRule}
 use Rattle.rules.specs.Act.{act}
-use Rattle.rules.specs.Remember.{Numbered, Given, Overwriting, By, numbered, unbegun}
+use Rattle.rules.specs.Remember.{Numbered, ReadEvent, Overwriting, By, numbered, unbegun}
 use Rattle.rules.specs.History.{Run, runOf}
 use Rattle.rules.specs.declared.state.PageNo.{PageNo}
 use Rattle.rules.specs.declared.state.Action.{Action}
@@ -84,22 +84,22 @@ pub record ReservedAt (readings : List Numbered) (m k : ℕ) : Type 0 where
 
 -- ---- the four places of a reading
 
-abbrev pub ungiven : Given
-ungiven = record { number = 0; value = 0 }
+abbrev pub noEvent : ReadEvent
+noEvent = record { number = 0; value = 0 }
 
 -- the k-th Event, from 0, gave the reading with number m
-pub record EventAt (events : List Given) (m k : ℕ) : Type 0 where
+pub record EventAt (events : List ReadEvent) (m k : ℕ) : Type 0 where
   pub below : k < length events
-  pub gave : getD events k ungiven .number ≡ m
+  pub gave : getD events k noEvent .number ≡ m
 
 -- one of these Events gave it
-pub record GivenIn (events : List Given) (m : ℕ) : Type 0 where
+pub record EventIn (events : List ReadEvent) (m : ℕ) : Type 0 where
   pub nth : ℕ
   pub event : EventAt events m nth
 
 -- "Handed out: an Event gave it."
 abbrev pub HandedOut : Run → ℕ → Type 0
-HandedOut r m = GivenIn (r .past .events) m
+HandedOut r m = EventIn (r .past .events) m
 
 -- the number m lay below the used of the page taken, just before the overwriting
 pub record LayBelow (m : ℕ) (o : Overwriting) : Type 0 where
@@ -172,15 +172,15 @@ flagAt r p = flagIn (wordAt (r .words) p)
 pub record OneHeader (r : State) : Type 0 where
   pub page : PageNo
   pub ring : RingPage r page
-  pub marked : flagAt r page ≡ header
-  pub alone : (p : PageNo) → RingPage r p → flagAt r p ≡ header → p ≡ page
+  pub marked : flagAt r page ≡ headerFlag
+  pub alone : (p : PageNo) → RingPage r p → flagAt r p ≡ headerFlag → p ≡ page
 
 -- no header mark among them, and an update mark whose writer is still at work
 pub record NoHeader (r : Run) : Type 0 where
-  pub no : (p : PageNo) → RingPage (r .now) p → flagAt (r .now) p ≢ header
+  pub no : (p : PageNo) → RingPage (r .now) p → flagAt (r .now) p ≢ headerFlag
   pub page : PageNo
   pub ring : RingPage (r .now) page
-  pub marked : flagAt (r .now) page ≡ update
+  pub marked : flagAt (r .now) page ≡ updateFlag
   pub atWork : Some (λ w. r .past .marker page ≡ By (w .nth)) (r .past .working)
 
 -- ---- demand 3, of a run r and a receipt c; `Demand` below takes the run's own receipt
@@ -195,7 +195,7 @@ pub record Claim (c : Receipt) (r : Run) : Type 0 where
   pub onePlace : (m : ℕ) → m < c .taken → ExactlyOne (HandedOut r m) (Overwritten r m) (Waiting r m) (NotCommitted r m)
   -- .. and one that was handed out was given by exactly one Event, with its own writer's value; no Event gave a number that no Reserved gave
   pub handedOnce : (m : ℕ) → HandedOut r m → One (EventAt (r .past .events) m)
-  pub handedValue : (m k : ℕ) → EventAt (r .past .events) m k → getD (r .past .events) k ungiven .value ≡ ownValue (r .past .readings) m
+  pub handedValue : (m k : ℕ) → EventAt (r .past .events) m k → getD (r .past .events) k noEvent .value ≡ ownValue (r .past .readings) m
   pub handedNumbered : (m k : ℕ) → EventAt (r .past .events) m k → m < c .taken
   -- 3. the receipt says how many numbered readings are in each place, and taken is their sum
   pub handedCount : Count (HandedOut r) (c .taken) (c .handed)
@@ -222,19 +222,19 @@ Demand r = Claim (receiptRule (r .now)) r
 -- ---- 8. the receipt says complete exactly when every reading begun has been handed out
 
 -- the writer whose Begin was the nth accepted, from 0, reserved a number, and an Event gave it
-pub record GivenOf (r : Run) (nth : ℕ) : Type 0 where
+pub record HandedOutOf (r : Run) (nth : ℕ) : Type 0 where
   pub number : ℕ
   pub reserved : ℕ
   pub numbered : ReservedAt (r .past .readings) number reserved
   pub own : getD (r .past .readings) reserved unnumbered .own .nth ≡ nth
   pub given : HandedOut r number
 
-abbrev pub AllGiven : Run → Type 0
-AllGiven r = (nth : ℕ) → nth < r .past .begins → GivenOf r nth
+abbrev pub AllHandedOut : Run → Type 0
+AllHandedOut r = (nth : ℕ) → nth < r .past .begins → HandedOutOf r nth
 
 pub record CompleteClaim (c : Receipt) (r : Run) : Type 0 where
-  pub says : c .complete ≡ true → AllGiven r
-  pub only : AllGiven r → c .complete ≡ true
+  pub says : c .complete ≡ true → AllHandedOut r
+  pub only : AllHandedOut r → c .complete ≡ true
 
 abbrev pub Complete : Run → Type 0
 Complete r = CompleteClaim (receiptRule (r .now)) r
@@ -252,16 +252,16 @@ pub record Sound (r : State) : Type 0 where
   -- so refusal 1 is never given
   pub refusals : (a : Action) → act r a .tells .refusal ≡ listed r a
   -- "Comes back": "the same state"
-  pub same : (a : Action) → listed r a ≢ 0 → act r a .ring ≡ r
+  pub same : (a : Action) → listed r a ≢ 0 → act r a .state ≡ r
   pub receipt : receiptRule r .refusal ≡ 0
 
 -- ---- all of it: "one claim about the whole list"
 
-pub record Whole (r : Run) : Type 0 where
+pub record RunClaim (r : Run) : Type 0 where
   pub demand : Demand r
   pub complete : Complete r
   pub sound : Sound (r .now)
 
 -- for every accepted set-up and every list of actions
 abbrev pub Demand3 : Type 0
-Demand3 = (pages slots mode : ℕ) → freshRule pages slots mode .answer ≡ Accepted → (actions : List Action) → Whole (runOf pages slots mode actions)
+Demand3 = (pages slots mode : ℕ) → freshRule pages slots mode .answer ≡ Accepted → (actions : List Action) → RunClaim (runOf pages slots mode actions)

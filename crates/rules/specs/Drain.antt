@@ -1,6 +1,5 @@
 -- Drain: Reads made one after the other, and their Events laid in a buffer that is lent. Request E2: "Ring, events and last answer are those
--- of the same Reads made singly." A `Drain` is what some Reads leave; `drained` makes them, in rows; `drainRule` is the call. What the code
--- gives back of it is `drainedInto` and `laidOut`; in one call, with the part, `handedBack` (specs/Drained).
+-- of the same Reads made singly." A `DrainOutcome` is what some Reads leave; `drainReads` makes them, in rows; `drainRule` is the call.
 -- Assumes nothing.
 use mathlib.Core.Path.{_≡_}
 use mathlib.Core.Bool.{cond}
@@ -12,7 +11,7 @@ use Rattle.rules.specs.State.{State}
 use Rattle.rules.specs.Answers.{Outcome}
 use Rattle.rules.specs.Shape.{inShape}
 use Rattle.rules.specs.Read.{readRule}
-use Rattle.rules.specs.Replay.{ringAfter, answersOf}
+use Rattle.rules.specs.Replay.{stateAfter, answersOf}
 use Rattle.rules.specs.declared.state.ReadingNo.{ReadingNo}
 use Rattle.rules.specs.declared.state.Refusal.the-variants.{Shape}
 use Rattle.rules.specs.declared.state.Answer.{Answer}
@@ -63,47 +62,47 @@ kindOf answer.Pending = quiet
 -- ---- the Reads
 
 -- what some Reads leave: the ring, the events that they told, in the order of the Reads and each as it is stored, and the last answer
-pub record Drain : Type 0 where
-  pub ring : State
+pub record DrainOutcome : Type 0 where
+  pub state : State
   pub events : List ℕ
   pub last : Last
 
-abbrev pub noMore : State → Last → Drain
-noMore r last = record { ring = r; events = []; last = last }
+abbrev pub drainEnds : State → Last → DrainOutcome
+drainEnds r last = record { state = r; events = []; last = last }
 
 -- one event before others
-abbrev pub before : ℕ → Drain → Drain
-before e d = record { ring = d .ring; events = e ∷ d .events; last = d .last }
+abbrev pub eventFirst : ℕ → DrainOutcome → DrainOutcome
+eventFirst e d = record { state = d .state; events = e ∷ d .events; last = d .last }
 
 -- after a Read: its event with what comes `later`; the end; or, after a quiet answer, `on`
-abbrev pub byKind : Kind → Drain → Drain → Drain → Drain
-byKind (event e) later end on = before e later
+abbrev pub byKind : Kind → DrainOutcome → DrainOutcome → DrainOutcome → DrainOutcome
+byKind (event e) later end on = eventFirst e later
 byKind ending later end on = end
 byKind quiet later end on = on
 
 -- after a Read with this outcome; both go on from its ring and its answer
-abbrev pub afterRead : (State → Last → Drain) → (State → Last → Drain) → Outcome → Drain
+abbrev pub afterRead : (State → Last → DrainOutcome) → (State → Last → DrainOutcome) → Outcome → DrainOutcome
 afterRead later on o =
     byKind (kindOf (o .answer))
-    (later (o .ring) (Given (o .answer)))
-    (noMore (o .ring) (Given (o .answer)))
-    (on (o .ring) (Given (o .answer)))
+    (later (o .state) (Given (o .answer)))
+    (drainEnds (o .state) (Given (o .answer)))
+    (on (o .state) (Given (o .answer)))
 
 -- Reads in a row, at most `left` of them, until one is not quiet; after an Event the drain goes on as `later` says
-abbrev pub row : (State → Last → Drain) → ℕ → State → Last → Drain
-row later zero r last = noMore r last
-row later (suc left) r last = afterRead later (row later left) (readRule r)
+abbrev pub readsInRow : (State → Last → DrainOutcome) → ℕ → State → Last → DrainOutcome
+readsInRow later zero r last = drainEnds r last
+readsInRow later (suc left) r last = afterRead later (readsInRow later left) (readRule r)
 
--- "Reads are made until the buffer is full", of which `room` elements are left, "or an answer is Empty, Busy or a refusal, or" `most` "Reads
+-- "Reads are made until the buffer is full", of which `space` elements are left, "or an answer is Empty, Busy or a refusal, or" `most` "Reads
 -- in a row have brought none of these and no Event"
-abbrev pub drained : ℕ → ℕ → State → Last → Drain
-drained most zero r last = noMore r last
-drained most (suc room) r last = row (drained most room) most r last
+abbrev pub drainReads : ℕ → ℕ → State → Last → DrainOutcome
+drainReads most zero r last = drainEnds r last
+drainReads most (suc space) r last = readsInRow (drainReads most space) most r last
 
 -- "A ring out of shape gets 1, whatever the buffer's length, with nothing stored and an empty part handed back. Otherwise length 0 means no
 -- Read, the same ring, last answer "none"."
-abbrev pub drainRule : State → ℕ → Drain
-drainRule r room = cond (inShape r) (drained mostInRow room r None) (noMore r (Given (answer.Refused Shape)))
+abbrev pub drainRule : State → ℕ → DrainOutcome
+drainRule r space = cond (inShape r) (drainReads mostInRow space r None) (drainEnds r (Given (answer.Refused Shape)))
 
 -- ---- the same as single actions
 
@@ -124,9 +123,9 @@ lastOf last (a ∷ rest) = lastOf (Given a) rest
 
 -- "the same Reads made singly": so many Reads, one after the other on the ring r, leave what a drain leaves (`drain-singly`, proofs/drain/Singly).
 -- On a ring out of shape it is the one Read that gets 1.
-pub record Singly (r : State) (d : Drain) : Type 0 where
+pub record Singly (r : State) (d : DrainOutcome) : Type 0 where
   pub reads : ℕ
-  pub ring : d .ring ≡ ringAfter r (replicate reads Read)
+  pub state : d .state ≡ stateAfter r (replicate reads Read)
   pub events : d .events ≡ eventsAmong (answersOf r (replicate reads Read))
   pub last : d .last ≡ lastOf None (answersOf r (replicate reads Read))
 
@@ -142,9 +141,9 @@ pub data Brought : Last → Type 0 where
 abbrev pub enough : ℕ
 enough = 6
 
--- one drain of one element, with at most six Reads in a row, ends with one of the three; so does every drain with room; and any limit of six
+-- one drain of one element, with at most six Reads in a row, ends with one of the three; so does every drain with space; and any limit of six
 -- or more gives what eight give
 pub record Brings (r : State) : Type 0 where
-  pub within : Brought (drained enough 1 r None .last)
-  pub ends : (room : ℕ) → Brought (drainRule r (suc room) .last)
-  pub sameAbove : (most room : ℕ) → enough ≤ most → drained most room r None ≡ drained mostInRow room r None
+  pub within : Brought (drainReads enough 1 r None .last)
+  pub ends : (space : ℕ) → Brought (drainRule r (suc space) .last)
+  pub sameAbove : (most space : ℕ) → enough ≤ most → drainReads most space r None ≡ drainReads mostInRow space r None

@@ -125,7 +125,7 @@ nothing = history 0 [] [] [] [] [] (λ p. Unmarked)
 abbrev pub next : Run → Action → Run
 next r a =
     record {
-      now = act (r .now) a .ring;
+      now = act (r .now) a .state;
       past = recall (valueIn a) (r .now) (act (r .now) a .answer) (r .past);
     }
 
@@ -136,4 +136,4 @@ after r (a ∷ rest) = after (next r a) rest
 
 -- "It starts from the ring that an accepted set-up gives": that the set-up is accepted is asked in the claim (specs/Demand)
 abbrev pub runOf : ℕ → ℕ → ℕ → List Action → Run
-runOf pages slots mode actions = after (record { now = freshRule pages slots mode .ring; past = nothing }) actions
+runOf pages slots mode actions = after (record { now = freshRule pages slots mode .state; past = nothing }) actions

@@ -36,21 +36,21 @@ abbrev pub mostInRow : ℕ
 mostInRow = 8
 
 -- "Mode: 0 overwrite, 1 stop"
-abbrev pub overwrite : ℕ
-overwrite = 0
+abbrev pub overwriteMode : ℕ
+overwriteMode = 0
 
-abbrev pub stop : ℕ
-stop = 1
+abbrev pub stopMode : ℕ
+stopMode = 1
 
 -- "NORMAL 0, HEADER 1, UPDATE 2"
-abbrev pub normal : ℕ
-normal = 0
+abbrev pub normalFlag : ℕ
+normalFlag = 0
 
-abbrev pub header : ℕ
-header = 1
+abbrev pub headerFlag : ℕ
+headerFlag = 1
 
-abbrev pub update : ℕ
-update = 2
+abbrev pub updateFlag : ℕ
+updateFlag = 2
 
 -- "One word never has both flags": the flag 3 that no word in shape has
 abbrev pub bothFlags : ℕ
@@ -64,4 +64,4 @@ abbrev pub plainSlots : ℕ
 plainSlots = 16
 
 abbrev pub plainMode : ℕ
-plainMode = overwrite
+plainMode = overwriteMode

@@ -5,7 +5,7 @@ use mathlib.Core.Bool.{cond}
 use mathlib.Core.List.{List, [], _∷_}
 use Prim.Native.Nat.{ℕ, _+_}
 use lib.Dec.{ltb}
-use Rattle.rules.specs.Limits.{normal, header}
+use Rattle.rules.specs.Limits.{normalFlag, headerFlag}
 use Rattle.rules.specs.Lists.{first}
 use Rattle.rules.specs.State.{reading, wordAt, usedAt, numberAt, valueAt, withReaderPage, withPosition, withHanded, withReaderPhase, setWord, setUsed, State}
 use Rattle.rules.specs.Answers.{Outcome, gives}
@@ -46,7 +46,7 @@ planIdle size places words used =
 
 -- "READY: if p's word is h HEADER ... Else answer Missed."
 abbrev pub planReady : PageNo → PageNo → List ℕ → Fetch
-planReady p h words = cond (links words p h header) (Swap p h) Miss
+planReady p h words = cond (links words p h headerFlag) (Swap p h) Miss
 
 abbrev pub planReader : ReaderPhase → Size → Places → List ℕ → List ℕ → Fetch
 planReader phase.Idle size places words used = planIdle size places words used
@@ -72,14 +72,14 @@ eventOf r =
 abbrev pub prepare : PageNo → PageNo → State → State
 prepare p h r =
     withReaderPhase (phase.Ready p h)
-    (setWord (r .places .reader) (wordOf (pageIn (wordAt (r .words) h)) header) r)
+    (setWord (r .places .reader) (wordOf (pageIn (wordAt (r .words) h)) headerFlag) r)
 
 -- "it becomes (reader page) NORMAL; the old reader page's used becomes 0; h is the reader page; position 0. ... IDLE."
 abbrev pub swap : PageNo → PageNo → State → State
 swap p h r =
     withReaderPhase phase.Idle
     (withPosition 0
-    (withReaderPage h (setUsed (r .places .reader) 0 (setWord p (wordOf (r .places .reader) normal) r))))
+    (withReaderPage h (setUsed (r .places .reader) 0 (setWord p (wordOf (r .places .reader) normalFlag) r))))
 
 abbrev pub fetched : Fetch → State → Outcome
 fetched Event r = gives (eventOf r) (handOut r)

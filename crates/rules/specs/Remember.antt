@@ -20,7 +20,7 @@ pub record Numbered : Type 0 where
   pub committed : Bool
 
 -- an Event: the number and the value that it gave
-pub record Given : Type 0 where
+pub record ReadEvent : Type 0 where
   pub number : ℕ
   pub value : ℕ
 
@@ -46,7 +46,7 @@ pub record History : Type 0 where
   -- the numbered readings, in the order of their Reserved
   pub readings : List Numbered
   -- the Events, in order
-  pub events : List Given
+  pub events : List ReadEvent
   -- the Markeds, in order
   pub overwritings : List Overwriting
   -- for each page, the writer of the last Marked that put an update mark in its word; it stays when the mark is cleared
@@ -63,7 +63,7 @@ numbered number own committed = record { number = number; own = own; committed =
 abbrev pub unbegun : BegunWriter
 unbegun = begunWriter 0 0
 
-abbrev pub history : ℕ → List BegunWriter → List BegunWriter → List Numbered → List Given → List Overwriting → (PageNo → Marker) → History
+abbrev pub history : ℕ → List BegunWriter → List BegunWriter → List Numbered → List ReadEvent → List Overwriting → (PageNo → Marker) → History
 history begins working droppers readings events overwritings marker =
     record {
       begins = begins;
@@ -89,7 +89,7 @@ withDroppers x h = history (h .begins) (h .working) x (h .readings) (h .events) 
 abbrev pub withReadings : List Numbered → History → History
 withReadings x h = history (h .begins) (h .working) (h .droppers) x (h .events) (h .overwritings) (h .marker)
 
-abbrev pub withEvents : List Given → History → History
+abbrev pub withEvents : List ReadEvent → History → History
 withEvents x h = history (h .begins) (h .working) (h .droppers) (h .readings) x (h .overwritings) (h .marker)
 
 abbrev pub withOverwritings : List Overwriting → History → History

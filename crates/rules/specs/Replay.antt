@@ -5,30 +5,32 @@ use mathlib.Core.Bool.{Bool, true, not}
 use mathlib.Core.List.{List, [], _∷_, _++_}
 use Prim.Native.Nat.{ℕ, _+_, _/_}
 use lib.Dec.{ltb}
-use lib.ListN.{length, drop, set}
+use lib.ListN.{length, drop}
 use Rattle.rules.specs.Lists.{first}
 use Rattle.rules.specs.State.{sizeOf, State}
 use Rattle.rules.specs.Codes.{numbersOf}
 use Rattle.rules.specs.Shape.{sizeFits}
-use Rattle.rules.specs.SetUp.{freshRing}
+use Rattle.rules.specs.SetUp.{freshRing, plainRing}
 use Rattle.rules.specs.Act.{act}
 use Rattle.rules.specs.Actions.{Decoded, decoded}
-use Rattle.rules.specs.declared.codes.Numbers.{Numbers}
 use Rattle.rules.specs.declared.state.Size.{Size}
+use Rattle.rules.specs.declared.state.Refusal.{Refusal}
+use Rattle.rules.specs.declared.state.Refusal.the-variants.{SetUp, Room}
 use Rattle.rules.specs.declared.state.Answer.{Answer}
+use Rattle.rules.specs.declared.state.Answer.the-variants.{Accepted, Refused}
 use Rattle.rules.specs.declared.state.Action.{Action}
 
 -- ---- the actions one by one, each on the ring that the last one returned. The ring is that of the run that demand 3 speaks of (`after-now`, proofs/runs/Reached)
 
-abbrev pub ringAfter : State → List Action → State
-ringAfter r [] = r
-ringAfter r (a ∷ rest) = ringAfter (act r a .ring) rest
+abbrev pub stateAfter : State → List Action → State
+stateAfter r [] = r
+stateAfter r (a ∷ rest) = stateAfter (act r a .state) rest
 
 abbrev pub answersOf : State → List Action → List Answer
 answersOf r [] = []
-answersOf r (a ∷ rest) = act r a .answer ∷ answersOf (act r a .ring) rest
+answersOf r (a ∷ rest) = act r a .answer ∷ answersOf (act r a .state) rest
 
--- ---- answers in room that is lent: three numbers each, the code of its kind and its values
+-- ---- answers in buffer that is lent: three numbers each, the code of its kind and its values
 
 abbrev pub answerNumbers : ℕ
 answerNumbers = 3
@@ -37,33 +39,62 @@ abbrev pub laid : List Answer → List ℕ
 laid [] = []
 laid (a ∷ rest) = numbersOf a .code ∷ numbersOf a .first ∷ numbersOf a .second ∷ laid rest
 
--- the front of the room filled, the rest kept
+-- the prefix of the buffer filled, the rest kept
 abbrev pub over : List ℕ → List ℕ → List ℕ
-over front old = front ++ drop (length front) old
+over prefix old = prefix ++ drop (length prefix) old
 
--- one answer laid at a place
-abbrev pub laidAt : List ℕ → ℕ → Numbers → List ℕ
-laidAt room at n = set (set (set room at (n .code)) (at + 1) (n .first)) (at + 2) (n .second)
+abbrev pub ranBuffer : State → Decoded → List ℕ → List ℕ
+ranBuffer r d buffer = over (laid (answersOf r (d .actions))) buffer
 
-abbrev pub ranRoom : State → Decoded → List ℕ → List ℕ
-ranRoom r d room = over (laid (answersOf r (d .actions))) room
+-- in the buffer lent there is a place for an answer to each byte: as many actions as there may be
+abbrev pub bufferFits : List ℕ → List ℕ → Bool
+bufferFits bytes buffer = not (ltb (length buffer / answerNumbers) (length bytes))
 
--- in the room lent there is a place for an answer to each byte: as many actions as there may be
-abbrev pub roomFits : List ℕ → List ℕ → Bool
-roomFits bytes room = not (ltb (length room / answerNumbers) (length bytes))
+-- ---- what a replay comes to
 
--- what the room holds then: as before where the replay is refused
-abbrev pub roomRule : ℕ → ℕ → ℕ → List ℕ → List ℕ → List ℕ
-roomRule pages slots mode bytes room =
+pub record ReplayOutcome : Type 0 where
+  -- after the last action made; the plain ring where the replay was refused before the first
+  pub state : State
+  -- Accepted, or why the replay was refused
+  pub answer : Answer
+  -- how many actions were made, and the place of the first byte after them; 0 where the replay was refused before the first
+  pub made : ℕ
+  pub stop : ℕ
+
+abbrev pub replayed : State → Answer → ℕ → ℕ → ReplayOutcome
+replayed r a made stop = record { state = r; answer = a; made = made; stop = stop }
+
+-- refused before the first action: the plain ring
+abbrev pub refusedReplay : Refusal → ReplayOutcome
+refusedReplay why = replayed plainRing (Refused why) 0 0
+
+-- all of them made, from ring r; that the bytes may break off is told by the stop alone
+abbrev pub ran : State → Decoded → ReplayOutcome
+ran r d = replayed (stateAfter r (d .actions)) Accepted (length (d .actions)) (d .stop)
+
+-- refused with SETUP where the set-up is, then with ROOM where the buffer is too short for whatever the bytes hold
+abbrev pub replayRule : ℕ → ℕ → ℕ → List ℕ → List ℕ → ReplayOutcome
+replayRule pages slots mode bytes buffer =
     first
-    ((not (sizeFits (sizeOf pages slots mode)), room)
-    ∷ (not (roomFits bytes room), room)
+    ((not (sizeFits (sizeOf pages slots mode)), refusedReplay SetUp)
+    ∷ (not (bufferFits bytes buffer), refusedReplay Room)
     ∷ [])
-    (ranRoom (freshRing (sizeOf pages slots mode)) (decoded bytes) room)
+    (ran (freshRing (sizeOf pages slots mode)) (decoded bytes))
+
+-- what the buffer holds then: as before where the replay is refused
+abbrev pub bufferRule : ℕ → ℕ → ℕ → List ℕ → List ℕ → List ℕ
+bufferRule pages slots mode bytes buffer =
+    first
+    ((not (sizeFits (sizeOf pages slots mode)), buffer)
+    ∷ (not (bufferFits bytes buffer), buffer)
+    ∷ [])
+    (ranBuffer (freshRing (sizeOf pages slots mode)) (decoded bytes) buffer)
+
+-- ---- the rings that are reached
 
 -- a ring that some actions reach from an accepted set-up
 pub record Reached (r : State) : Type 0 where
   pub size : Size
   pub fits : sizeFits size ≡ true
   pub past : List Action
-  pub reached : r ≡ ringAfter (freshRing size) past
+  pub reached : r ≡ stateAfter (freshRing size) past

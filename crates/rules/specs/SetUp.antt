@@ -4,7 +4,7 @@ use mathlib.Core.Bool.{cond}
 use mathlib.Core.List.{List}
 use Prim.Native.Nat.{ℕ, _+_}
 use lib.Dec.{eqb, ltb}
-use Rattle.rules.specs.Limits.{pageRoom, normal, header, plainPages, plainSlots, plainMode}
+use Rattle.rules.specs.Limits.{pageRoom, normalFlag, headerFlag, plainPages, plainSlots, plainMode}
 use Rattle.rules.specs.Lists.{tabulate}
 use Rattle.rules.specs.State.{page, sizeOf, withWords, withReaderPage, blank, State}
 use Rattle.rules.specs.Answers.{Outcome, gives}
@@ -20,7 +20,7 @@ freshNext n i = cond (ltb (i + 1) n) (i + 1) 0
 
 -- "page N−1 to 0 with HEADER, other words NORMAL"
 abbrev pub freshFlag : ℕ → ℕ → ℕ
-freshFlag n i = cond (eqb (i + 1) n) header normal
+freshFlag n i = cond (eqb (i + 1) n) headerFlag normalFlag
 
 abbrev pub freshWord : ℕ → ℕ → ℕ
 freshWord n i = wordOf (page (freshNext n i)) (freshFlag n i)

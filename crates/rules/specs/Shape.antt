@@ -4,7 +4,7 @@ use mathlib.Core.Bool.{Bool, true, _&&_, not}
 use mathlib.Core.List.{List, [], _∷_}
 use Prim.Native.Nat.{ℕ, _+_}
 use lib.Dec.{eqb, leb, ltb}
-use Rattle.rules.specs.Limits.{leastPages, mostPages, leastSlots, mostSlots, mostDepth, mostCount, stop, bothFlags}
+use Rattle.rules.specs.Limits.{leastPages, mostPages, leastSlots, mostSlots, mostDepth, mostCount, stopMode, bothFlags}
 use Rattle.rules.specs.Lists.{every, all, allBelow}
 use Rattle.rules.specs.State.{page, wordAt, usedAt, recordAt, State}
 use Rattle.rules.specs.Words.{pageIn, flagIn}
@@ -26,7 +26,7 @@ sizeTests s =
     ∷ leb (s .pages) mostPages
     ∷ leb leastSlots (s .slots)
     ∷ leb (s .slots) mostSlots
-    ∷ leb (s .mode) stop
+    ∷ leb (s .mode) stopMode
     ∷ []
 
 abbrev pub sizeFits : Size → Bool

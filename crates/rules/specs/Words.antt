@@ -4,7 +4,7 @@ use mathlib.Core.Bool.{Bool, _&&_, not}
 use mathlib.Core.List.{List}
 use Prim.Native.Nat.{ℕ, _+_, _*_, _/_, _%_}
 use lib.Dec.{eqb}
-use Rattle.rules.specs.Limits.{header}
+use Rattle.rules.specs.Limits.{headerFlag}
 use Rattle.rules.specs.Lists.{Least, none, at, least}
 use Rattle.rules.specs.State.{page, wordAt}
 use Rattle.rules.specs.declared.state.PageNo.{PageNo}
@@ -38,7 +38,7 @@ links words p n flag = eqb (wordAt words p) (wordOf n flag)
 
 -- page p is not the reader page, and its word is HEADER. "Taking a prepared reader word for a ring mark" is left out by the first test.
 abbrev pub heads : List ℕ → PageNo → ℕ → Bool
-heads words reader p = not (samePage (page p) reader) && eqb (flagIn (wordAt words (page p))) header
+heads words reader p = not (samePage (page p) reader) && eqb (flagIn (wordAt words (page p))) headerFlag
 
 abbrev pub foundAt : List ℕ → Least → Search
 foundAt words none = Nowhere

@@ -5,7 +5,7 @@ use mathlib.Core.Bool.{Bool, true, false, cond, _&&_, _||_}
 use mathlib.Core.List.{List, [], _∷_}
 use Prim.Native.Nat.{ℕ, _+_}
 use lib.Dec.{eqb, ltb}
-use Rattle.rules.specs.Limits.{stop, normal, header, update}
+use Rattle.rules.specs.Limits.{stopMode, normalFlag, headerFlag, updateFlag}
 use Rattle.rules.specs.Lists.{first}
 use Rattle.rules.specs.State.{reading, wordAt, usedAt, top, withTail, withCommitPage, withCommitIndex, withTaken, withCommitted, withOverwritten, withDropped, setWord, setUsed, setNumber, setValue, setPhase, pop, State}
 use Rattle.rules.specs.Answers.{Outcome, gives}
@@ -34,11 +34,11 @@ planFull size places n flag =
     -- b. n is the commit page: drop.
     ∷ (samePage n (places .commit), Drop)
     -- c. flag HEADER and the commit page is the reader page: drop.
-    ∷ (eqb flag header && readerOnCommit places, Drop)
+    ∷ (eqb flag headerFlag && readerOnCommit places, Drop)
     -- d. flag HEADER, stop mode: drop.
-    ∷ (eqb flag header && eqb (size .mode) stop, Drop)
+    ∷ (eqb flag headerFlag && eqb (size .mode) stopMode, Drop)
     -- e. flag HEADER or UPDATE: MARK (t, n).
-    ∷ (eqb flag header || eqb flag update, Become (phase.Mark (places .tail) n) answer.Looked)
+    ∷ (eqb flag headerFlag || eqb flag updateFlag, Become (phase.Mark (places .tail) n) answer.Looked)
     ∷ [])
     -- f. flag NORMAL: PUSH (t, n).
     (Become (phase.Push (places .tail) n) answer.Looked)
@@ -54,8 +54,8 @@ planWant size places words used =
 abbrev pub planMark : PageNo → PageNo → List ℕ → Move
 planMark t n words =
     first
-    ((links words t n header, Mark t n)
-    ∷ (links words t n update, Become (phase.Promote t n false) answer.Shared)
+    ((links words t n headerFlag, Mark t n)
+    ∷ (links words t n updateFlag, Become (phase.Promote t n false) answer.Shared)
     ∷ [])
     (Become phase.Want answer.Retry)
 
@@ -76,7 +76,7 @@ planPromote size places t n own words =
 
 -- "CLEAR: t's word, if n UPDATE, becomes n NORMAL. Answer Cleared; PUSH."
 abbrev pub planClear : PageNo → PageNo → List ℕ → Move
-planClear t n words = cond (links words t n update) (Clear t n) (Become (phase.Push t n) answer.Cleared)
+planClear t n words = cond (links words t n updateFlag) (Clear t n) (Become (phase.Push t n) answer.Cleared)
 
 -- "PUSH: if the tail page is t, it becomes n ... else answer Passed. Then WANT."
 abbrev pub planPush : Places → PageNo → PageNo → Move
@@ -116,15 +116,15 @@ drop r = withDropped (r .counts .dropped + 1) (pop r)
 abbrev pub mark : PageNo → PageNo → State → State
 mark t n r =
     withOverwritten (r .counts .overwritten + usedAt (r .used) n)
-    (setUsed n 0 (setWord t (wordOf n update) (setPhase (phase.Promote t n true) r)))
+    (setUsed n 0 (setWord t (wordOf n updateFlag) (setPhase (phase.Promote t n true) r)))
 
 -- "n's word becomes HEADER, same page"
 abbrev pub promote : PageNo → WriterPhase → State → State
-promote n next r = setWord n (wordOf (pageIn (wordAt (r .words) n)) header) (setPhase next r)
+promote n next r = setWord n (wordOf (pageIn (wordAt (r .words) n)) headerFlag) (setPhase next r)
 
 -- "t's word ... becomes n NORMAL ...; PUSH."
 abbrev pub clear : PageNo → PageNo → State → State
-clear t n r = setWord t (wordOf n normal) (setPhase (phase.Push t n) r)
+clear t n r = setWord t (wordOf n normalFlag) (setPhase (phase.Push t n) r)
 
 -- "the tail page ... becomes n ... Then WANT."
 abbrev pub push : PageNo → State → State

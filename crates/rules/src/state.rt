@@ -83,7 +83,7 @@ pub enum Refusal {
     Sizes,
     // of a trace: an unknown or cut action
     Action,
-    // the room that was lent is too short
+    // the buffer that was lent is too short
     Room,
 }
 

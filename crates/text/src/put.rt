@@ -1,5 +1,5 @@
-// What a line is made of: text, numbers and the spaces between columns. A line is put together in room of its own and written whole at its end, so that
-// it is one write. Each function takes the line and a place in it, and answers the place after what it put. What does not fit is cut at the room: the
+// What a line is made of: text, numbers and the spaces between columns. A line is put together in a buffer of its own and written whole at its end, so that
+// it is one write. Each function takes the line and a place in it, and answers the place after what it put. What does not fit is cut at the end of the buffer: the
 // longest line here, that of 17 words of ten digits, has 222 bytes. What cannot be written is left out, since a program has nobody to tell.
 ghost use Prim.Native.Nat.{_<_};
 use libc::STDOUT_FILENO;
@@ -12,7 +12,7 @@ pub(crate) type Line = [u8; ROOM];
 // Where the second column starts: after two spaces and a first column of 18 characters.
 pub(crate) const SECOND: usize = 20;
 
-// One byte, or none where the room is used up.
+// One byte, or none where the buffer is full.
 fn byte(line: &mut Line, at: usize, b: u8) -> usize {
     if at < ROOM {
         line[at] = b;
@@ -73,7 +73,7 @@ pub(crate) fn hex(line: &mut Line, at: usize, n: u32) -> usize {
     word(line, at, &digits[..k])
 }
 
-// The place of a line's newline: the last of the room where the line was cut.
+// The place of a line's newline: the last of the buffer where the line was cut.
 fn last_place(at: usize) -> usize
     ensures { λ r. ⌜ r < 256 ⌝ }
 {
@@ -81,7 +81,7 @@ fn last_place(at: usize) -> usize
 }
 
 // Writes the first n bytes of a text, or all of it where it is shorter.
-fn front(text: &[u8], n: usize) {
+fn prefix(text: &[u8], n: usize) {
     if n <= text.len() {
         io::write_all(STDOUT_FILENO, &text[0..n]);
     } else {
@@ -93,10 +93,10 @@ fn front(text: &[u8], n: usize) {
 pub(crate) fn end_line(line: &mut Line, at: usize) {
     let last = last_place(at);
     line[last] = b'\n';
-    front(line, last + 1);
+    prefix(line, last + 1);
 }
 
-// A line of a text that may be longer than the room: it is written as it stands.
+// A line of a text that may be longer than the buffer: it is written as it stands.
 pub(crate) fn whole_line(text: &[u8]) {
     io::write_all(STDOUT_FILENO, text);
     io::write_all(STDOUT_FILENO, b"\n");

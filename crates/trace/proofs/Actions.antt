@@ -9,7 +9,7 @@ use borrow.Author.Tests.{le-leb, lt-leb, le-ltb}
 use lib.ListN.{length, length-append}
 use lib.Seq.{getD-append-seam, getD-append-add}
 use Rattle.rules.specs.Limits.{mostCount}
-use Rattle.rules.specs.Actions.{beginCode, writeCode, readCode, beginLength, valueOf, valueBytes, codedAt, before, decodedFrom, coded, encoded}
+use Rattle.rules.specs.Actions.{beginCode, writeCode, readCode, beginLength, valueOf, valueBytes, codedAt, actionFirst, decodedFrom, coded, encoded}
 use Rattle.rules.specs.declared.state.Action.{Action}
 use Rattle.rules.specs.declared.state.Action.the-variants.{Begin, Write, Read}
 use Rattle.rules.specs.declared.actions.Coded.the-variants.{Whole, End}
@@ -59,4 +59,4 @@ decoded-encoded pre [] f =
     decoded-stops (pre ++ []) (length pre) e tt ∙ rw append-nil
 decoded-encoded pre (a ∷ rest) f =
     decoded-whole (pre ++ (coded a ++ encoded rest)) (length pre) (whole-at pre (encoded rest) a (f .0))
-    ∙ ap (before a) (rw (append-assoc, length-append) at (decoded-encoded (pre ++ coded a) rest (f .1)))
+    ∙ ap (actionFirst a) (rw (append-assoc, length-append) at (decoded-encoded (pre ++ coded a) rest (f .1)))

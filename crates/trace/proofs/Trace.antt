@@ -10,11 +10,11 @@ use lib.Seq.{take-append-seam, drop-append-add, drop-drop}
 use Rattle.rules.specs.State.{sizeOf}
 use Rattle.rules.specs.Shape.{sizeFits}
 use Rattle.rules.specs.Actions.{Decoded, decodedFrom, coded, encoded}
-use Rattle.rules.specs.Replay.{answerNumbers, over, ranRoom, roomFits}
+use Rattle.rules.specs.Replay.{answerNumbers, over, ranBuffer, bufferFits}
 use Rattle.rules.specs.declared.state.Action.{Action}
 use Rattle.rules.specs.declared.state.Refusal.{Refusal}
 use Rattle.trace.specs.Header.{mostLength, markEnd, versionEnd, firstAction, plainByte, headerOf}
-use Rattle.trace.specs.Replays.{walkPlace, walkBytes, walkActions, walked, frontRing, replayedFrom, roomFrom}
+use Rattle.trace.specs.Replays.{walkPlace, walkBytes, walkActions, walked, headerRing, replayedFrom, bufferFrom}
 use Rattle.trace.specs.Encode.{headerBytes, put, kept, placeFor, headerPlace, actionPlace}
 use Rattle.trace.specs.Trace.{ValuesFit, traceOf, Written, writtenFrom, written, ReadBack, WrittenOut, ReplayedBack, RoundTrip}
 use Rattle.trace.specs.declared.parts.Header.the-variants.{Ready}
@@ -22,14 +22,14 @@ use Rattle.trace.specs.declared.parts.Put.{Put}
 use Rattle.trace.specs.declared.parts.Put.the-variants.{At, Refused}
 use Rattle.ring.proofs.replay.Laws.{over-length}
 use Rattle.trace.proofs.Actions.{decoded-encoded}
-use Rattle.trace.proofs.encode.Laws.{small, placed, fronted}
-use Rattle.trace.proofs.walk.Laws.{room-enough}
+use Rattle.trace.proofs.encode.Laws.{small, placed, header-fits}
+use Rattle.trace.proofs.walk.Laws.{buffer-enough}
 
 -- ---- reading
 
 module _ (pages slots mode : ℕ) (actions : List Action) where
-  front-back : sizeFits (sizeOf pages slots mode) ≡ true → length (traceOf pages slots mode actions) ≤ mostLength → headerOf (traceOf pages slots mode actions) ≡ Ready pages slots mode
-  front-back h l =
+  header-back : sizeFits (sizeOf pages slots mode) ≡ true → length (traceOf pages slots mode actions) ≤ mostLength → headerOf (traceOf pages slots mode actions) ≡ Ready pages slots mode
+  header-back h l =
       let s = small pages slots mode h in
       let bytes = traceOf pages slots mode actions in
       rw (
@@ -42,7 +42,7 @@ module _ (pages slots mode : ℕ) (actions : List Action) where
       )
 
   read-back : ValuesFit actions → sizeFits (sizeOf pages slots mode) ≡ true → length (traceOf pages slots mode actions) ≤ mostLength → ReadBack pages slots mode actions
-  read-back f h l = record { front = front-back h l; then = decoded-encoded (headerBytes pages slots mode) actions f }
+  read-back f h l = record { header = header-back h l; then = decoded-encoded (headerBytes pages slots mode) actions f }
 
 -- ---- writing
 
@@ -67,12 +67,12 @@ module _ (out : List ℕ) where
   over-more : (pre bytes : List ℕ) → put bytes (length pre) (over pre out) ≡ over (pre ++ bytes) out
   over-more pre bytes = simp (take-append-seam, drop-append-add, drop-drop, length-append)
 
-  -- bytes that have room are put
+  -- bytes that have buffer are put
   has-place : (pre bytes : List ℕ) → length pre + length bytes ≤ mostLength → length pre + length bytes ≤ length out → placeFor (length (over pre out)) (length pre) (length bytes) ≡ At (length pre + length bytes)
   has-place pre bytes s f =
       rw (over-length pre out (omega arith), le-ltb mostLength (length pre + length bytes) s, le-ltb (length out) (length pre + length bytes) f)
 
-  -- one call that is not refused, after which the bytes of one action more stand at the front
+  -- one call that is not refused, after which the bytes of one action more stand at the start
   one-more : (pre : List ℕ) (a : Action) (rest : List Action) {next : ℕ} → actionPlace (length (over pre out)) (length pre) a ≡ At next → writtenFrom (At (length pre)) (over pre out) (a ∷ rest) ≡ writtenFrom (At (length (pre ++ coded a))) (over (pre ++ coded a) out) rest
   one-more pre a rest e =
       let n = placed (length (over pre out)) (length pre) (length (coded a)) e .after ∙ sym (length-append pre (coded a)) in
@@ -112,7 +112,7 @@ module _ (pages slots mode : ℕ) (actions : List Action) (out : List ℕ) where
   -- the first call
   begun : {next : ℕ} → headerPlace (length out) pages slots mode ≡ At next → written pages slots mode actions out ≡ writtenFrom (At (length (headerBytes pages slots mode))) (over (headerBytes pages slots mode) out) actions
   begun e =
-      let n = fronted (length out) pages slots mode e .after in
+      let n = header-fits (length out) pages slots mode e .after in
       ap (λ (p : Put). writtenFrom p (kept p (put (headerBytes pages slots mode) 0 out) out) actions) (e ∙ ap At n)
 
   write-out : sizeFits (sizeOf pages slots mode) ≡ true → length (traceOf pages slots mode actions) ≤ mostLength → length (traceOf pages slots mode actions) ≤ length out → written pages slots mode actions out .place ≡ At (length (traceOf pages slots mode actions))
@@ -125,7 +125,7 @@ module _ (pages slots mode : ℕ) (actions : List Action) (out : List ℕ) where
       by-put (headerPlace (length out) pages slots mode)
       (λ next e.
       let b = begun e in
-      let p = fronted (length out) pages slots mode e in
+      let p = header-fits (length out) pages slots mode e in
       let w = wrote-from out (headerBytes pages slots mode) actions end (omega arith) (omega arith) (rw b at h) in
       record {
         stop = w .stop;
@@ -136,7 +136,7 @@ module _ (pages slots mode : ℕ) (actions : List Action) (out : List ℕ) where
 
 -- ---- the replay of what was written
 
-module _ (pages slots mode : ℕ) (actions : List Action) (room : List ℕ) (back : ReadBack pages slots mode actions) (fits : answerNumbers * length (encoded actions) ≤ length room) where
+module _ (pages slots mode : ℕ) (actions : List Action) (buffer : List ℕ) (back : ReadBack pages slots mode actions) (fits : answerNumbers * length (encoded actions) ≤ length buffer) where
   abbrev bytes : List ℕ
   bytes = traceOf pages slots mode actions
 
@@ -148,19 +148,19 @@ module _ (pages slots mode : ℕ) (actions : List Action) (room : List ℕ) (bac
       let n = trace-length in
       rw (le-ltb (length bytes) firstAction (omega arith))
 
-  enough : roomFits (walkBytes bytes firstAction) room ≡ true
+  enough : bufferFits (walkBytes bytes firstAction) buffer ≡ true
   enough =
       let n = trace-length in
-      room-enough bytes room firstAction firstAction (sym place) (omega arith)
+      buffer-enough bytes buffer firstAction firstAction (sym place) (omega arith)
 
-  replayed-back : ReplayedBack pages slots mode actions room
-  unfolding replayedFrom roomFrom
+  replayed-back : ReplayedBack pages slots mode actions buffer
+  unfolding replayedFrom bufferFrom
   replayed-back =
-      let r = frontRing pages slots mode in
+      let r = headerRing pages slots mode in
       let all : walkActions bytes firstAction ≡ record { actions = actions; stop = length bytes } = ap (decodedFrom bytes) place ∙ back .then in
       record {
-        replays = rw (back .front, enough) (ap (walked (length bytes) r) all ∙ rw (eq-eqb (length bytes) (length bytes) refl));
-        answers = rw (back .front, enough) (ap (λ (d : Decoded). ranRoom r d room) all);
+        replays = rw (back .header, enough) (ap (walked (length bytes) r) all ∙ rw (eq-eqb (length bytes) (length bytes) refl));
+        answers = rw (back .header, enough) (ap (λ (d : Decoded). ranBuffer r d buffer) all);
       }
 
 pub round-trip : RoundTrip

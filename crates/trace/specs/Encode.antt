@@ -1,4 +1,4 @@
--- Writing a trace, so that what a logger writes is what the bench reads: the bytes of the front and of an action, where they stand, and when a call is refused.
+-- Writing a trace, so that what a logger writes is what the bench reads: the bytes of the header and of an action, where they stand, and when a call is refused.
 -- Assumes nothing.
 use mathlib.Core.Bool.{not}
 use mathlib.Core.List.{List, [], _∷_, _++_}
@@ -28,21 +28,21 @@ abbrev pub kept : Put → List ℕ → List ℕ → List ℕ
 kept (At next) new old = new
 kept (Refused why) new old = old
 
--- the place after so many bytes from a place on: refused with 6 where the trace would be "longer than that", then with 10 where the room is too short
+-- the place after so many bytes from a place on: refused with 6 where the trace would be "longer than that", then with 10 where the capacity is too short
 abbrev pub placeFor : ℕ → ℕ → ℕ → Put
-placeFor room at count =
+placeFor capacity at count =
     first
     ((ltb mostLength (at + count), Refused Mark)
-    ∷ (ltb room (at + count), Refused Room)
+    ∷ (ltb capacity (at + count), Refused Room)
     ∷ [])
     (At (at + count))
 
--- the front: refused with 8 where the set-up is "out of range", then with 10 where the room is too short
+-- the header: refused with 8 where the set-up is "out of range", then with 10 where the capacity is too short
 abbrev pub headerPlace : ℕ → ℕ → ℕ → ℕ → Put
-headerPlace room pages slots mode =
+headerPlace capacity pages slots mode =
     first
     ((not (sizeFits (sizeOf pages slots mode)), Refused Sizes)
-    ∷ (ltb room firstAction, Refused Room)
+    ∷ (ltb capacity firstAction, Refused Room)
     ∷ [])
     (At firstAction)
 
@@ -51,7 +51,7 @@ headerPut out pages slots mode = kept (headerPlace (length out) pages slots mode
 
 -- an action
 abbrev pub actionPlace : ℕ → ℕ → Action → Put
-actionPlace room at a = placeFor room at (length (coded a))
+actionPlace capacity at a = placeFor capacity at (length (coded a))
 
 abbrev pub actionPut : List ℕ → ℕ → Action → List ℕ
 actionPut out at a = kept (actionPlace (length out) at a) (put (coded a) at out) out

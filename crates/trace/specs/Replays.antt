@@ -1,4 +1,4 @@
--- The replay of a trace: its front, then the actions from a place on, one by one. Request E1: "9 an unknown or cut action, with the offset of that action's first
+-- The replay of a trace: its header, then the actions from a place on, one by one. Request E1: "9 an unknown or cut action, with the offset of that action's first
 -- byte. On 9 the state is that after the last whole action; on the others it is the plain ring. ... Replay equals the actions one by one".
 -- Assumes nothing.
 use mathlib.Core.Path.{_≡_}
@@ -7,16 +7,13 @@ use mathlib.Core.List.{List}
 use Prim.Native.Nat.{ℕ, _+_}
 use lib.Dec.{eqb, ltb}
 use lib.ListN.{length, drop}
-use Rattle.ring.specs.Ring.{stateOf}
 use Rattle.rules.specs.State.{sizeOf, State}
 use Rattle.rules.specs.SetUp.{freshRing}
 use Rattle.rules.specs.Actions.{Decoded, codedAt, decodedFrom}
-use Rattle.rules.specs.Replay.{ringAfter, ranRoom, roomFits}
-use Rattle.ring.specs.Replay.{replay, refusedReplay}
+use Rattle.rules.specs.Replay.{stateAfter, ranBuffer, bufferFits, replayed, refusedReplay, ReplayOutcome}
 use Rattle.rules.specs.declared.state.Refusal.the-variants as refusal
 use Rattle.rules.specs.declared.state.Answer.{Answer}
 use Rattle.rules.specs.declared.state.Answer.the-variants as answer
-use Rattle.ring.specs.declared.state.Replay.{Replay}
 use Rattle.rules.specs.declared.actions.Coded.the-variants.{Broken}
 use Rattle.trace.specs.Header.{headerOf}
 use Rattle.trace.specs.declared.parts.Header.{Header}
@@ -38,38 +35,38 @@ abbrev pub wholeTo : ℕ → ℕ → Answer
 wholeTo len stop = cond (eqb stop len) answer.Accepted (answer.Refused refusal.Action)
 
 -- the actions made one by one from ring r; the stop is "the offset of that action's first byte"
-abbrev pub walked : ℕ → State → Decoded → Replay
-walked len r d = replay (ringAfter r (d .actions)) (wholeTo len (d .stop)) (length (d .actions)) (d .stop)
+abbrev pub walked : ℕ → State → Decoded → ReplayOutcome
+walked len r d = replayed (stateAfter r (d .actions)) (wholeTo len (d .stop)) (length (d .actions)) (d .stop)
 
 -- a run of the bytes from a place on, told as one of all of them
-abbrev pub toldFrom : ℕ → ℕ → Replay → Replay
-toldFrom len from run = replay (stateOf (run .ring)) (wholeTo len (from + run .stop)) (run .made) (from + run .stop)
+abbrev pub toldFrom : ℕ → ℕ → ReplayOutcome → ReplayOutcome
+toldFrom len from run = replayed (run .state) (wholeTo len (from + run .stop)) (run .made) (from + run .stop)
 
--- the ring of the front
-abbrev pub frontRing : ℕ → ℕ → ℕ → State
-frontRing pages slots mode = freshRing (sizeOf pages slots mode)
+-- the ring of the header
+abbrev pub headerRing : ℕ → ℕ → ℕ → State
+headerRing pages slots mode = freshRing (sizeOf pages slots mode)
 
--- by what the front says: a refusal, with the plain ring; or the actions on its ring, where the room lent has a place for an answer to each byte
-abbrev pub replayedBy : Header → List ℕ → ℕ → List ℕ → Replay
-replayedBy (Refused why) bytes at room = refusedReplay why
-replayedBy (Ready pages slots mode) bytes at room =
-    cond (roomFits (walkBytes bytes at) room)
-    (walked (length bytes) (frontRing pages slots mode) (walkActions bytes at))
+-- by what the start says: a refusal, with the plain ring; or the actions on its ring, where the buffer lent has a place for an answer to each byte
+abbrev pub replayedBy : Header → List ℕ → ℕ → List ℕ → ReplayOutcome
+replayedBy (Refused why) bytes at buffer = refusedReplay why
+replayedBy (Ready pages slots mode) bytes at buffer =
+    cond (bufferFits (walkBytes bytes at) buffer)
+    (walked (length bytes) (headerRing pages slots mode) (walkActions bytes at))
     (refusedReplay refusal.Room)
 
--- what the room holds then: the answers at its front, and as before where the replay was refused before the first action
-abbrev pub roomBy : Header → List ℕ → ℕ → List ℕ → List ℕ
-roomBy (Refused why) bytes at room = room
-roomBy (Ready pages slots mode) bytes at room =
-    cond (roomFits (walkBytes bytes at) room) (ranRoom (frontRing pages slots mode) (walkActions bytes at) room) room
+-- what the buffer holds then: the answers at its start, and as before where the replay was refused before the first action
+abbrev pub bufferBy : Header → List ℕ → ℕ → List ℕ → List ℕ
+bufferBy (Refused why) bytes at buffer = buffer
+bufferBy (Ready pages slots mode) bytes at buffer =
+    cond (bufferFits (walkBytes bytes at) buffer) (ranBuffer (headerRing pages slots mode) (walkActions bytes at) buffer) buffer
 
-unfoldable pub replayedFrom : List ℕ → ℕ → List ℕ → Replay
-replayedFrom bytes at room = replayedBy (headerOf bytes) bytes at room
+unfoldable pub replayedFrom : List ℕ → ℕ → List ℕ → ReplayOutcome
+replayedFrom bytes at buffer = replayedBy (headerOf bytes) bytes at buffer
 
-unfoldable pub roomFrom : List ℕ → ℕ → List ℕ → List ℕ
-roomFrom bytes at room = roomBy (headerOf bytes) bytes at room
+unfoldable pub bufferFrom : List ℕ → ℕ → List ℕ → List ℕ
+bufferFrom bytes at buffer = bufferBy (headerOf bytes) bytes at buffer
 
 -- whatever the bytes are: where a replay is refused with 9, an unknown or cut action stands at its stop; where it is not refused, it made all actions to the end
-pub record NineRight (bytes : List ℕ) (r : Replay) : Type 0 where
+pub record NineRight (bytes : List ℕ) (r : ReplayOutcome) : Type 0 where
   pub nine : r .answer ≡ answer.Refused refusal.Action → codedAt bytes (r .stop) ≡ Broken
   pub whole : r .answer ≡ answer.Accepted → r .stop ≡ length bytes

@@ -10,13 +10,12 @@ use Rattle.rules.specs.State.{sizeOf}
 use Rattle.rules.specs.Shape.{sizeFits}
 use Rattle.rules.specs.Actions.{decodedFrom, encoded}
 use Rattle.rules.specs.SetUp.{freshRing}
-use Rattle.rules.specs.Replay.{ringAfter, answersOf, answerNumbers, laid, over}
-use Rattle.ring.specs.Replay.{replay}
+use Rattle.rules.specs.Replay.{stateAfter, answersOf, answerNumbers, laid, over, replayed}
 use Rattle.rules.specs.declared.state.Answer.the-variants.{Accepted}
 use Rattle.rules.specs.declared.state.Action.{Action}
 use Rattle.rules.specs.declared.state.Action.the-variants.{Begin, Write, Read}
 use Rattle.trace.specs.Header.{mostLength, firstAction, headerOf}
-use Rattle.trace.specs.Replays.{replayedFrom, roomFrom}
+use Rattle.trace.specs.Replays.{replayedFrom, bufferFrom}
 use Rattle.trace.specs.Encode.{headerBytes, headerPlace, headerPut, actionPlace, actionPut}
 use Rattle.trace.specs.declared.parts.Header.the-variants.{Ready}
 use Rattle.trace.specs.declared.parts.Put.{Put}
@@ -55,23 +54,23 @@ written pages slots mode actions out = writtenFrom (headerPlace (length out) pag
 
 -- ---- the round trip
 
--- the front of the trace says the set-up, and then come all the actions, to the trace's end
+-- the header of the trace says the set-up, and then come all the actions, to the trace's end
 pub record ReadBack (pages slots mode : ℕ) (actions : List Action) : Type 0 where
-  pub front : headerOf (traceOf pages slots mode actions) ≡ Ready pages slots mode
+  pub header : headerOf (traceOf pages slots mode actions) ≡ Ready pages slots mode
   pub then : decodedFrom (traceOf pages slots mode actions) firstAction ≡ record { actions = actions; stop = length (traceOf pages slots mode actions) }
 
--- where no call was refused, the trace stands at the front of the bytes lent, the rest kept, and it is one that is read back
+-- where no call was refused, the trace stands at the start of the bytes lent, the rest kept, and it is one that is read back
 pub record WrittenOut (pages slots mode : ℕ) (actions : List Action) (out : List ℕ) (end : ℕ) : Type 0 where
   pub stop : end ≡ length (traceOf pages slots mode actions)
   pub holds : written pages slots mode actions out .out ≡ over (traceOf pages slots mode actions) out
   pub reads : ReadBack pages slots mode actions
 
--- the trace replayed, with room for its answers: the actions one by one on the fresh ring, all of them, and their answers at the front of the room
-pub record ReplayedBack (pages slots mode : ℕ) (actions : List Action) (room : List ℕ) : Type 0 where
+-- the trace replayed, with buffer for its answers: the actions one by one on the fresh ring, all of them, and their answers at the start of the buffer
+pub record ReplayedBack (pages slots mode : ℕ) (actions : List Action) (buffer : List ℕ) : Type 0 where
   pub replays :
-      replayedFrom (traceOf pages slots mode actions) firstAction room
-      ≡ replay (ringAfter (freshRing (sizeOf pages slots mode)) actions) Accepted (length actions) (length (traceOf pages slots mode actions))
-  pub answers : roomFrom (traceOf pages slots mode actions) firstAction room ≡ over (laid (answersOf (freshRing (sizeOf pages slots mode)) actions)) room
+      replayedFrom (traceOf pages slots mode actions) firstAction buffer
+      ≡ replayed (stateAfter (freshRing (sizeOf pages slots mode)) actions) Accepted (length actions) (length (traceOf pages slots mode actions))
+  pub answers : bufferFrom (traceOf pages slots mode actions) firstAction buffer ≡ over (laid (answersOf (freshRing (sizeOf pages slots mode)) actions)) buffer
 
 pub record RoundTrip : Type 0 where
   -- every trace of an accepted set-up that is not too long is read back
@@ -81,7 +80,7 @@ pub record RoundTrip : Type 0 where
       sizeFits (sizeOf pages slots mode) ≡ true →
       length (traceOf pages slots mode actions) ≤ mostLength →
       ReadBack pages slots mode actions
-  -- it is written by the calls where the bytes lent have room for it
+  -- it is written by the calls where the bytes lent have buffer for it
   pub write :
       (pages slots mode : ℕ) (actions : List Action) (out : List ℕ) →
       sizeFits (sizeOf pages slots mode) ≡ true →
@@ -96,7 +95,7 @@ pub record RoundTrip : Type 0 where
       WrittenOut pages slots mode actions out end
   -- and a trace that is read back is replayed as its actions one by one
   pub replayed :
-      (pages slots mode : ℕ) (actions : List Action) (room : List ℕ) →
+      (pages slots mode : ℕ) (actions : List Action) (buffer : List ℕ) →
       ReadBack pages slots mode actions →
-      answerNumbers * length (encoded actions) ≤ length room →
-      ReplayedBack pages slots mode actions room
+      answerNumbers * length (encoded actions) ≤ length buffer →
+      ReplayedBack pages slots mode actions buffer

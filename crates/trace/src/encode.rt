@@ -1,4 +1,4 @@
-// Writing a trace into bytes that are lent: the front, and then one action after the other, each at the place that the last call gave.
+// Writing a trace into bytes that are lent: the header, and then one action after the other, each at the place that the last call gave.
 ghost use mathlib.Core.Path.{_≡_};
 ghost use Prim.Native.Nat.{_+_, _<_, _≤_, _%_};
 ghost use mathlib.Core.List.{[], _∷_};
@@ -26,7 +26,7 @@ fn low_byte(value: u32) -> u8
     (value % 256) as u8
 }
 
-// The front, in bytes that have room for it.
+// The header, in bytes that have capacity for it.
 fn store_header(out: &mut [u8], pages: u8, slots: u8, mode: u8)
     requires { ⌜ firstAction ≤ length (now out) ⌝ }
     ensures { λ _. ⌜ now (out .exit) ≡ put (headerBytes pages slots mode) 0 (now (out .entry)) ⌝ }
@@ -41,20 +41,20 @@ fn store_header(out: &mut [u8], pages: u8, slots: u8, mode: u8)
     out[MODE_AT] = mode;
 }
 
-// The place after the front, or the first refusal that applies.
-fn header_place(room: usize, pages: u32, slots: u32, mode: u32) -> Put
-    ensures { λ r. ⌜ r ≡ headerPlace room pages slots mode ⌝ }
+// The place after the header, or the first refusal that applies.
+fn header_place(capacity: usize, pages: u32, slots: u32, mode: u32) -> Put
+    ensures { λ r. ⌜ r ≡ headerPlace capacity pages slots mode ⌝ }
 {
     if !Ring::accepts(pages, slots, mode) {
         return Put::Refused(Refusal::Sizes);
     }
-    if room < FIRST_ACTION {
+    if capacity < FIRST_ACTION {
         return Put::Refused(Refusal::Room);
     }
     Put::At(FIRST_ACTION)
 }
 
-// The front of a trace. Where it is refused, `out` is left as it was.
+// The header of a trace. Where it is refused, `out` is left as it was.
 pub fn put_header(out: &mut [u8], pages: u32, slots: u32, mode: u32) -> Put
     ensures { λ r. ⌜ (r ≡ headerPlace (length (now (out .entry))) pages slots mode) × (now (out .exit) ≡ headerPut (now (out .entry)) pages slots mode) ⌝ }
 {
@@ -80,8 +80,8 @@ fn length_of(action: Action) -> usize
 }
 
 // The place after `count` bytes from `at` on, or the first refusal that applies. `at` is tested by itself, so that the sum does not wrap.
-fn place_for(room: usize, at: usize, count: usize) -> Put
-    ensures { λ r. ⌜ r ≡ placeFor room at count ⌝ }
+fn place_for(capacity: usize, at: usize, count: usize) -> Put
+    ensures { λ r. ⌜ r ≡ placeFor capacity at count ⌝ }
 {
     if MOST_LENGTH < at {
         return Put::Refused(Refusal::Mark);
@@ -89,13 +89,13 @@ fn place_for(room: usize, at: usize, count: usize) -> Put
     if MOST_LENGTH - at < count {
         return Put::Refused(Refusal::Mark);
     }
-    if room < at + count {
+    if capacity < at + count {
         return Put::Refused(Refusal::Room);
     }
     Put::At(at + count)
 }
 
-// A Begin, in bytes that have room for it.
+// A Begin, in bytes that have capacity for it.
 fn store_begin(out: &mut [u8], at: usize, value: u32)
     requires { ⌜ at + beginLength ≤ length (now out) ⌝ }
     ensures { λ _. ⌜ now (out .exit) ≡ put (beginCode ∷ valueBytes value) at (now (out .entry)) ⌝ }
@@ -107,7 +107,7 @@ fn store_begin(out: &mut [u8], at: usize, value: u32)
     out[at + 4] = low_byte(value / 16777216);
 }
 
-// One byte, where there is room for it.
+// One byte, where there is capacity for it.
 fn store_byte(out: &mut [u8], at: usize, byte: u8)
     requires { ⌜ at < length (now out) ⌝ }
     ensures { λ _. ⌜ now (out .exit) ≡ put (byte ∷ []) at (now (out .entry)) ⌝ }
@@ -115,7 +115,7 @@ fn store_byte(out: &mut [u8], at: usize, byte: u8)
     out[at] = byte;
 }
 
-// An action, in bytes that have room for it.
+// An action, in bytes that have capacity for it.
 fn store_action(out: &mut [u8], at: usize, action: Action)
     requires { ⌜ at + length (coded action) ≤ length (now out) ⌝ }
     ensures { λ _. ⌜ now (out .exit) ≡ put (coded action) at (now (out .entry)) ⌝ }

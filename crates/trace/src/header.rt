@@ -1,4 +1,4 @@
-// The front of a trace: mark, version and set-up.
+// The header of a trace: mark, version and set-up.
 ghost use mathlib.Core.Path.{_≡_};
 ghost use Rattle.trace.specs.Header.{marked, versionFits, modeOf, setUp, headerOf};
 use crate::parts::FIRST_ACTION;
@@ -67,7 +67,7 @@ fn set_up(pages: u8, slots: u8, mode: u8) -> Header
     Header::Refused(Refusal::Sizes)
 }
 
-// What the front says, or the first refusal that applies.
+// What the start says, or the first refusal that applies.
 pub fn header(bytes: &[u8]) -> Header
     ensures { λ r. ⌜ r ≡ headerOf (now (bytes .entry)) ⌝ }
 {

@@ -2,8 +2,9 @@
 // whoever calls it needs no proof by hand.
 ghost use mathlib.Core.Path.{_≡_};
 ghost use Rattle.rules.specs.Actions.{codedAt};
+ghost use Rattle.ring.specs.Replay.{replayOutcome};
 ghost use Rattle.trace.specs.Header.{firstAction};
-ghost use Rattle.trace.specs.Replays.{replayedFrom, roomFrom};
+ghost use Rattle.trace.specs.Replays.{replayedFrom, bufferFrom};
 use crate::parts::FIRST_ACTION;
 use crate::walk::replay_from;
 use ring::Coded;
@@ -44,19 +45,19 @@ impl<'a> TraceReader<'a> {
         }
     }
 
-    // The front, then the actions from the place on, made one by one on the fresh ring that the front says; their answers are in the room that is lent.
+    // The header, then the actions from the place on, made one by one on the fresh ring that the header says; their answers are in the buffer that is lent.
     pub fn replay(self, answers: &mut [u64]) -> Replay
-        ensures { λ r. ⌜ (r ≡ replayedFrom (now (self .entry .bytes)) (self .entry .at) (now (answers .entry))) × (now (answers .exit) ≡ roomFrom (now (self .entry .bytes)) (self .entry .at) (now (answers .entry))) ⌝ }
+        ensures { λ r. ⌜ (replayOutcome r ≡ replayedFrom (now (self .entry .bytes)) (self .entry .at) (now (answers .entry))) × (now (answers .exit) ≡ bufferFrom (now (self .entry .bytes)) (self .entry .at) (now (answers .entry))) ⌝ }
     {
         replay_from(self.bytes, self.at, answers)
     }
 }
 
-// A whole trace, by a reader that keeps hold of its bytes: its front, and the actions from the first one on. Refused with MARK, VERSION or SIZES for
-// its front, then with ROOM where `answers` has no place for an answer to each byte after it, with the plain ring each; and with ACTION at an action
+// A whole trace, by a reader that keeps hold of its bytes: its header, and the actions from the first one on. Refused with MARK, VERSION or SIZES for
+// its header, then with ROOM where `answers` has no place for an answer to each byte after it, with the plain ring each; and with ACTION at an action
 // that is unknown or cut, whose offset is `stop`, with the ring after the last whole one.
 pub fn replay(bytes: &[u8], answers: &mut [u64]) -> Replay
-    ensures { λ r. ⌜ (r ≡ replayedFrom (now (bytes .entry)) firstAction (now (answers .entry))) × (now (answers .exit) ≡ roomFrom (now (bytes .entry)) firstAction (now (answers .entry))) ⌝ }
+    ensures { λ r. ⌜ (replayOutcome r ≡ replayedFrom (now (bytes .entry)) firstAction (now (answers .entry))) × (now (answers .exit) ≡ bufferFrom (now (bytes .entry)) firstAction (now (answers .entry))) ⌝ }
 {
     TraceReader::open(bytes).replay(answers)
 }

@@ -1,7 +1,8 @@
-// The actions of a trace from a place on, made one by one on the ring of its front.
+// The actions of a trace from a place on, made one by one on the ring of its header.
 ghost use mathlib.Core.Path.{_≡_};
 ghost use Prim.Native.Nat.{_+_, _<_, _^_};
-ghost use Rattle.trace.specs.Replays.{walkPlace, toldFrom, replayedFrom, roomFrom};
+ghost use Rattle.ring.specs.Replay.{replayOutcome};
+ghost use Rattle.trace.specs.Replays.{walkPlace, toldFrom, replayedFrom, bufferFrom};
 use crate::header::header;
 use crate::parts::Header;
 use ring::Answer;
@@ -21,7 +22,7 @@ fn walk_place(length: usize, at: usize) -> usize
 // A run of the bytes from `from` on, told as one of all `length` bytes. Where it stops before their end, the action there is unknown or cut.
 fn told_from(run: Replay, length: usize, from: usize) -> Replay
     requires { ⌜ from + run .stop < 2 ^ 64 ⌝ }
-    ensures { λ r. ⌜ r ≡ toldFrom length from run ⌝ }
+    ensures { λ r. ⌜ replayOutcome r ≡ toldFrom length from (replayOutcome run) ⌝ }
 {
     let ring = run.ring;
     let stop = from + run.stop;
@@ -38,13 +39,13 @@ fn told_from(run: Replay, length: usize, from: usize) -> Replay
     }
 }
 
-// The front, then the actions from `at` on, on the fresh ring that the front says. The room is tested here too, so that its refusal is not told as one
+// The header, then the actions from `at` on, on the fresh ring that the header says. The buffer is tested here too, so that its refusal is not told as one
 // of an action.
 pub(crate) fn replay_from(bytes: &[u8], at: usize, answers: &mut [u64]) -> Replay
-    ensures { λ r. ⌜ (r ≡ replayedFrom (now (bytes .entry)) at (now (answers .entry))) × (now (answers .exit) ≡ roomFrom (now (bytes .entry)) at (now (answers .entry))) ⌝ }
+    ensures { λ r. ⌜ (replayOutcome r ≡ replayedFrom (now (bytes .entry)) at (now (answers .entry))) × (now (answers .exit) ≡ bufferFrom (now (bytes .entry)) at (now (answers .entry))) ⌝ }
 {
-    let front = header(bytes);
-    match front {
+    let said = header(bytes);
+    match said {
         Header::Refused(why) => refused_replay(why),
         Header::Ready(pages, slots, mode) => {
             let from = walk_place(bytes.len(), at);

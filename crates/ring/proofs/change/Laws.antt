@@ -19,8 +19,8 @@ use Rattle.rules.specs.Begin.{begin}
 use Rattle.rules.specs.Write.{moved, planWrite}
 use Rattle.rules.specs.Read.{fetched, planRead}
 use Rattle.rules.specs.Act.{act}
-use Rattle.ring.specs.Pieces.{StoresFit}
-use Rattle.ring.specs.Change.{judgedChange, begunChange, movedChange, fetchedChange, changeOf, changed, ChangeFits}
+use Rattle.ring.specs.Pieces.{StoresPrecondition}
+use Rattle.ring.specs.Change.{judgedChange, begunChange, movedChange, fetchedChange, changeOf, changed, ChangePrecondition}
 use Rattle.rules.specs.declared.state.Writer.{Writer}
 use Rattle.rules.specs.declared.state.Refusal.{Refusal}
 use Rattle.rules.specs.declared.state.Refusal.the-variants.{Depth, Nobody, Worn}
@@ -37,13 +37,13 @@ use Rattle.rules.proofs.Lists.{by-cond}
 use Rattle.rules.proofs.shape.Laws.{InShape}
 use Rattle.ring.proofs.write.Laws.{top-fits, plan-fits}
 use Rattle.ring.proofs.read.Laws as read
-use Rattle.ring.proofs.pieces.Laws.{stores-fit, read-stores-fit}
+use Rattle.ring.proofs.pieces.Laws.{stores-precondition, read-stores-precondition}
 
 -- ---- the pieces stored are the action
 
 -- an outcome and a change of the ring r tell the same
 pub record Agrees (r : State) (o : Outcome) (c : Change) : Type 0 where
-  pub ring : o .ring ≡ changed c r
+  pub state : o .state ≡ changed c r
   pub answer : numbersOf (o .answer) ≡ c .answer
 
 module _ (r : State) where
@@ -56,47 +56,47 @@ module _ (r : State) where
       Agrees r o c →
       Agrees r (judged v r o) (judgedChange v (top r) (r .places) (r .counts) (r .depth) (r .reader) c)
   judged-agrees Allowed o c h = h
-  judged-agrees (Refused why) o c h = record { ring = ap (λ (st : List Writer). withStack st r) same-stack; answer = refl }
+  judged-agrees (Refused why) o c h = record { state = ap (λ (st : List Writer). withStack st r) same-stack; answer = refl }
 
   moved-agrees : (m : Move) → Agrees r (moved m r) (movedChange m (top r) (r .size) (r .places) (r .counts) (r .depth) (r .reader) (r .words) (r .used))
-  moved-agrees (Become next a) = record { ring = refl; answer = refl }
-  moved-agrees (Reserve t slot) = record { ring = refl; answer = refl }
-  moved-agrees Drop = record { ring = refl; answer = refl }
-  moved-agrees (Mark t n) = record { ring = refl; answer = refl }
-  moved-agrees (Promote n next) = record { ring = refl; answer = refl }
-  moved-agrees (Clear t n) = record { ring = refl; answer = refl }
-  moved-agrees (Push n) = record { ring = refl; answer = refl }
-  moved-agrees (Fill p slot) = record { ring = refl; answer = refl }
-  moved-agrees Pend = record { ring = refl; answer = refl }
-  moved-agrees Commit = record { ring = refl; answer = refl }
+  moved-agrees (Become next a) = record { state = refl; answer = refl }
+  moved-agrees (Reserve t slot) = record { state = refl; answer = refl }
+  moved-agrees Drop = record { state = refl; answer = refl }
+  moved-agrees (Mark t n) = record { state = refl; answer = refl }
+  moved-agrees (Promote n next) = record { state = refl; answer = refl }
+  moved-agrees (Clear t n) = record { state = refl; answer = refl }
+  moved-agrees (Push n) = record { state = refl; answer = refl }
+  moved-agrees (Fill p slot) = record { state = refl; answer = refl }
+  moved-agrees Pend = record { state = refl; answer = refl }
+  moved-agrees Commit = record { state = refl; answer = refl }
 
   -- what a Read leaves, with the stack as it was
-  kept : (f : Fetch) → withStack (r .stack) (fetched f r .ring) ≡ withStack (set (r .stack) (r .depth - 1) (top r)) (fetched f r .ring)
-  kept f = ap (λ (st : List Writer). withStack st (fetched f r .ring)) same-stack
+  kept : (f : Fetch) → withStack (r .stack) (fetched f r .state) ≡ withStack (set (r .stack) (r .depth - 1) (top r)) (fetched f r .state)
+  kept f = ap (λ (st : List Writer). withStack st (fetched f r .state)) same-stack
 
   fetched-agrees : (f : Fetch)
       → Agrees r (fetched f r) (fetchedChange f (top r) (r .size) (r .places) (r .counts) (r .depth) (r .reader) (r .words) (r .numbers) (r .values))
-  fetched-agrees fetch.Event = record { ring = kept fetch.Event; answer = refl }
-  fetched-agrees fetch.Empty = record { ring = kept fetch.Empty; answer = refl }
-  fetched-agrees fetch.Busy = record { ring = kept fetch.Busy; answer = refl }
-  fetched-agrees (fetch.Find p h) = record { ring = kept (fetch.Find p h); answer = refl }
-  fetched-agrees (fetch.Prepare p h) = record { ring = kept (fetch.Prepare p h); answer = refl }
-  fetched-agrees (fetch.Swap p h) = record { ring = kept (fetch.Swap p h); answer = refl }
-  fetched-agrees fetch.Miss = record { ring = kept fetch.Miss; answer = refl }
+  fetched-agrees fetch.Event = record { state = kept fetch.Event; answer = refl }
+  fetched-agrees fetch.Empty = record { state = kept fetch.Empty; answer = refl }
+  fetched-agrees fetch.Busy = record { state = kept fetch.Busy; answer = refl }
+  fetched-agrees (fetch.Find p h) = record { state = kept (fetch.Find p h); answer = refl }
+  fetched-agrees (fetch.Prepare p h) = record { state = kept (fetch.Prepare p h); answer = refl }
+  fetched-agrees (fetch.Swap p h) = record { state = kept (fetch.Swap p h); answer = refl }
+  fetched-agrees fetch.Miss = record { state = kept fetch.Miss; answer = refl }
 
   pub change-acts : inShape r ≡ true → (a : Action) → Agrees r (act r a) (changeOf r a)
   change-acts shape (Begin v) =
       rw shape
-      (judged-agrees (beginVerdict true (r .depth) (r .counts .begun)) (begin v r) (begunChange v (r .places) (r .counts) (r .depth) (r .reader)) (record { ring = refl; answer = refl }))
+      (judged-agrees (beginVerdict true (r .depth) (r .counts .begun)) (begin v r) (begunChange v (r .places) (r .counts) (r .depth) (r .reader)) (record { state = refl; answer = refl }))
   change-acts shape Write = rw shape (judged-agrees (writeVerdict true (r .depth)) (moved (planWrite r) r) _ (moved-agrees (planWrite r)))
   change-acts shape Read = rw shape (fetched-agrees (planRead r))
 
 -- ---- what the code asks of the pieces
 
 module _ (r : State) (s : InShape r) where
-  pub change-fits : (a : Action) → ChangeFits a (top r) (r .size) (r .places) (r .counts) (r .depth) (r .reader) (r .words) (r .used)
-  change-fits (Begin v) = (s .depth, s .begun)
-  change-fits Write =
+  pub change-precondition : (a : Action) → ChangePrecondition a (top r) (r .size) (r .places) (r .counts) (r .depth) (r .reader) (r .words) (r .used)
+  change-precondition (Begin v) = (s .depth, s .begun)
+  change-precondition Write =
       record {
         pages = s .pages-most;
         tail = omega (arith, s);
@@ -111,7 +111,7 @@ module _ (r : State) (s : InShape r) where
               somebody = omega (arith, n);
             };
       }
-  change-fits Read =
+  change-precondition Read =
       record {
         pages = s .pages-most;
         page = omega (arith, s);
@@ -152,13 +152,13 @@ module _ (r : State) (s : InShape r) where
   change-top Read = omega (arith, s)
 
   -- the cells are within the arrays; a refusal stores to none
-  pub change-stores : (a : Action) → StoresFit (changeOf r a .stores)
+  pub change-stores : (a : Action) → StoresPrecondition (changeOf r a .stores)
   change-stores (Begin v) =
-      by-cond (λ (w : Verdict). StoresFit (judged-by (begun-by v) w .stores)) (eqb (r .depth) mostDepth)
+      by-cond (λ (w : Verdict). StoresPrecondition (judged-by (begun-by v) w .stores)) (eqb (r .depth) mostDepth)
       (λ e. tt)
-      (λ e. by-cond (λ (w : Verdict). StoresFit (judged-by (begun-by v) w .stores)) (eqb (r .counts .begun) mostCount) (λ e. tt) (λ e. tt))
+      (λ e. by-cond (λ (w : Verdict). StoresPrecondition (judged-by (begun-by v) w .stores)) (eqb (r .counts .begun) mostCount) (λ e. tt) (λ e. tt))
   change-stores Write =
-      by-cond (λ (w : Verdict). StoresFit (judged-by moved-by w .stores)) (eqb (r .depth) 0)
+      by-cond (λ (w : Verdict). StoresPrecondition (judged-by moved-by w .stores)) (eqb (r .depth) 0)
       (λ e. tt)
-      (λ e. stores-fit (r .size) (r .counts .taken) (top r .value) (r .words) (s .slots-most) (planWrite r) (plan-fits r s (eqb-false (r .depth) 0 e)))
-  change-stores Read = read-stores-fit (r .places .reader) (r .words) (planRead r) (read.plan-fits r s) (omega (arith, s))
+      (λ e. stores-precondition (r .size) (r .counts .taken) (top r .value) (r .words) (s .slots-most) (planWrite r) (plan-fits r s (eqb-false (r .depth) 0 e)))
+  change-stores Read = read-stores-precondition (r .places .reader) (r .words) (planRead r) (read.plan-fits r s) (omega (arith, s))

@@ -8,7 +8,7 @@ use Prim.Native.Nat.{ℕ}
 use Rattle.rules.specs.Answers.{Outcome}
 use Rattle.ring.specs.Ring.{stateOf, ringOf, outcome}
 use Rattle.rules.specs.History.{Run, after, runOf, nothing, recall, valueIn}
-use Rattle.rules.specs.Demand.{Claim, CompleteClaim, Whole}
+use Rattle.rules.specs.Demand.{Claim, CompleteClaim, RunClaim}
 use Rattle.ring.specs.Code.{Made, asked, runTold, runFrom, Follow, CodeDemand3}
 use Rattle.rules.specs.declared.state.Action.{Action}
 use Rattle.rules.specs.declared.state.Receipt.{Receipt}
@@ -34,7 +34,7 @@ ReceiptGives r c = receipt-promise.Learnt tt (r, tt) c (r, tt)
 
 -- the run that goes on by an outcome of action a
 abbrev by : Run → Action → Outcome → Run
-by r a o = record { now = o .ring; past = recall (valueIn a) (r .now) (o .answer) (r .past) }
+by r a o = record { now = o .state; past = recall (valueIn a) (r .now) (o .answer) (r .past) }
 
 told-after : (r : Run) (made : List Made) → Follow FreshGives ActGives ReceiptGives (ringOf (r .now)) made → runTold r made ≡ after r (asked made)
 told-after r [] f = refl
@@ -47,14 +47,14 @@ code-demand-3 pages slots mode first given accepted made follows c receipt =
     let r = runFrom first made in
     let ruled : r ≡ runOf pages slots mode (asked made) =
     told-after (record { now = stateOf (first .ring); past = nothing }) made follows
-    ∙ ap (λ (o : Outcome). after (record { now = o .ring; past = nothing }) (asked made)) given in
+    ∙ ap (λ (o : Outcome). after (record { now = o .state; past = nothing }) (asked made)) given in
     let rulesAccept = sym (ap (λ (o : Outcome). o .answer) given) ∙ accepted in
-    let whole : Whole r = subst Whole (sym ruled) (demand-3 pages slots mode rulesAccept (asked made)) in
+    let whole : RunClaim r = subst RunClaim (sym ruled) (demand-3 pages slots mode rulesAccept (asked made)) in
     record {
       demand = subst (λ (c : Receipt). Claim c r) (sym receipt) (whole .demand);
       complete = subst (λ (c : Receipt). CompleteClaim c r) (sym receipt) (whole .complete);
       shape = whole .sound .shape;
       refusals = λ a s gives. ap (λ (o : Outcome). o .tells .refusal) gives ∙ whole .sound .refusals a;
-      same = λ a s gives refused. ap (λ (o : Outcome). o .ring) gives ∙ whole .sound .same a refused;
+      same = λ a s gives refused. ap (λ (o : Outcome). o .state) gives ∙ whole .sound .same a refused;
       receipt = ap (λ (c : Receipt). c .refusal) receipt ∙ whole .sound .receipt;
     }

@@ -30,7 +30,7 @@ use Rattle.ring.proofs.demand.Code.{FreshGives, ActGives, ReceiptGives}
 
 -- the step with an outcome's ring and answer
 abbrev stepOf : Outcome → Step
-stepOf o = record { ring = ringOf (o .ring); answer = o .answer }
+stepOf o = record { ring = ringOf (o .state); answer = o .answer }
 
 -- what an outcome tells is what its answer tells: so it is the outcome of that step
 abbrev Plain : Outcome → Type 0
@@ -74,15 +74,15 @@ fresh-plain pages slots mode =
 -- the rules' own steps
 abbrev makes : State → List Action → List Made
 makes r [] = []
-makes r (a ∷ rest) = record { action = a; step = stepOf (act r a) } ∷ makes (act r a .ring) rest
+makes r (a ∷ rest) = record { action = a; step = stepOf (act r a) } ∷ makes (act r a .state) rest
 
 makes-asked : (r : State) (actions : List Action) → asked (makes r actions) ≡ actions
 makes-asked r [] = refl
-makes-asked r (a ∷ rest) = ap (λ (l : List Action). a ∷ l) (makes-asked (act r a .ring) rest)
+makes-asked r (a ∷ rest) = ap (λ (l : List Action). a ∷ l) (makes-asked (act r a .state) rest)
 
 makes-follow : (r : State) (actions : List Action) → Follow FreshGives ActGives ReceiptGives (ringOf r) (makes r actions)
 makes-follow r [] = tt
-makes-follow r (a ∷ rest) = (act-plain r a, makes-follow (act r a .ring) rest)
+makes-follow r (a ∷ rest) = (act-plain r a, makes-follow (act r a .state) rest)
 
 pub code-runs : CodeRuns FreshGives ActGives ReceiptGives
 code-runs pages slots mode actions =
@@ -90,9 +90,9 @@ code-runs pages slots mode actions =
     record {
       first = stepOf o;
       fresh = fresh-plain pages slots mode;
-      made = makes (o .ring) actions;
-      all = makes-asked (o .ring) actions;
-      follow = makes-follow (o .ring) actions;
-      receipt = receiptRule (runFrom (stepOf o) (makes (o .ring) actions) .now);
+      made = makes (o .state) actions;
+      all = makes-asked (o .state) actions;
+      follow = makes-follow (o .state) actions;
+      receipt = receiptRule (runFrom (stepOf o) (makes (o .state) actions) .now);
       given = refl;
     }

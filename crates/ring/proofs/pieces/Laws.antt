@@ -16,7 +16,7 @@ use Rattle.rules.specs.Shape.{inShape}
 use Rattle.rules.specs.Answers.{Outcome, gives}
 use Rattle.rules.specs.Write.{moved, planWrite, writeRule}
 use Rattle.rules.specs.Read.{fetched, planRead, readRule}
-use Rattle.ring.specs.Pieces.{answerAfter, countsAfter, placesAfter, depthAfter, recordAfter, storesAfter, readAnswer, readHanded, readPlaces, readPhase, readStores, stored, StoresFit, MoveFits, FetchFits}
+use Rattle.ring.specs.Pieces.{answerAfter, countsAfter, placesAfter, depthAfter, recordAfter, storesAfter, readAnswer, readHanded, readPlaces, readPhase, readStores, stored, StoresPrecondition, MovePrecondition, FetchPrecondition}
 use Rattle.rules.specs.declared.state.PageNo.{PageNo}
 use Rattle.rules.specs.declared.state.Size.{Size}
 use Rattle.rules.specs.declared.state.Places.{Places}
@@ -77,17 +77,17 @@ write-leaves r {m} ok e ea ew ek ep ed ec =
 
 -- the cells that a Write stores to
 module _ (size : Size) (taken value : ℕ) (words : List ℕ) (le : size .slots ≤ mostSlots) where
-  pub stores-fit : (m : Move) → MoveFits m → StoresFit (storesAfter m size taken value words)
-  stores-fit (Become next a) h = tt
-  stores-fit (Reserve t slot) h = (slotIndex-room size t slot (h .0) le (h .1), h .0)
-  stores-fit Drop h = tt
-  stores-fit (Mark t n) h = h
-  stores-fit (Promote n next) h = h
-  stores-fit (Clear t n) h = h .0
-  stores-fit (Push n) h = tt
-  stores-fit (Fill p slot) h = slotIndex-room size p slot (h .0) le (h .1)
-  stores-fit Pend h = tt
-  stores-fit Commit h = tt
+  pub stores-precondition : (m : Move) → MovePrecondition m → StoresPrecondition (storesAfter m size taken value words)
+  stores-precondition (Become next a) h = tt
+  stores-precondition (Reserve t slot) h = (slotIndex-room size t slot (h .0) le (h .1), h .0)
+  stores-precondition Drop h = tt
+  stores-precondition (Mark t n) h = h
+  stores-precondition (Promote n next) h = h
+  stores-precondition (Clear t n) h = h .0
+  stores-precondition (Push n) h = tt
+  stores-precondition (Fill p slot) h = slotIndex-room size p slot (h .0) le (h .1)
+  stores-precondition Pend h = tt
+  stores-precondition Commit h = tt
 
 -- ---- Read
 
@@ -123,14 +123,14 @@ read-leaves r {f} shape e ea eh ep er ec = rw (shape, ← e, ea, eh, ep, er, ec)
 
 module _ (reader : PageNo) (words : List ℕ) where
   -- the cells that a Read stores to
-  pub read-stores-fit : (f : Fetch) → FetchFits f → reader .0 ≤ mostPages → StoresFit (readStores f reader words)
-  read-stores-fit fetch.Event h le = tt
-  read-stores-fit fetch.Empty h le = tt
-  read-stores-fit fetch.Busy h le = tt
-  read-stores-fit (fetch.Find p q) h le = tt
-  read-stores-fit (fetch.Prepare p q) h le = le
-  read-stores-fit (fetch.Swap p q) h le = (h, le)
-  read-stores-fit fetch.Miss h le = tt
+  pub read-stores-precondition : (f : Fetch) → FetchPrecondition f → reader .0 ≤ mostPages → StoresPrecondition (readStores f reader words)
+  read-stores-precondition fetch.Event h le = tt
+  read-stores-precondition fetch.Empty h le = tt
+  read-stores-precondition fetch.Busy h le = tt
+  read-stores-precondition (fetch.Find p q) h le = tt
+  read-stores-precondition (fetch.Prepare p q) h le = le
+  read-stores-precondition (fetch.Swap p q) h le = (h, le)
+  read-stores-precondition fetch.Miss h le = tt
 
   -- of the five kinds of stores a Read makes a word's or a taken page's, and otherwise none
   pub read-stores-same : (f : Fetch) → OneOf (0 ∷ 1 ∷ 4 ∷ []) (tagOf the-type (readStores f reader words)) → readStores f reader words ≡ stores.Same

@@ -7,13 +7,13 @@ use Prim.Native.Nat.{ℕ, _≤_, _<_}
 use native.Mathlib.Omega.{arith}
 use borrow.Author.Tests.{ltb-true, leb-true}
 use lib.Dec.{ltb, leb}
-use Rattle.rules.specs.Limits.{header}
+use Rattle.rules.specs.Limits.{headerFlag}
 use Rattle.rules.specs.Refusals.{readVerdict}
 use Rattle.rules.specs.State.{page, wordAt, State}
 use Rattle.rules.specs.Words.{pageIn, readerOnCommit, links, findHeader}
 use Rattle.rules.specs.Shape.{readerFits}
 use Rattle.rules.specs.Read.{readLimit, findBy, planReader, planRead}
-use Rattle.ring.specs.Pieces.{FetchFits, EventFits}
+use Rattle.ring.specs.Pieces.{FetchPrecondition, EventPrecondition}
 use Rattle.rules.specs.declared.state.PageNo.{PageNo}
 use Rattle.rules.specs.declared.state.ReaderPhase.{ReaderPhase}
 use Rattle.rules.specs.declared.state.ReaderPhase.the-variants as phase
@@ -72,14 +72,14 @@ module _ (r : State) (s : InShape r) where
       (λ k. find-planned (findHeader (r .words) (r .size .pages) (r .places .reader)) (search-tells (r .words) (r .size .pages) (r .places .reader))))
   phase-planned (phase.Found p h) e fits = pages-fit p h (r .size .pages) fits
   phase-planned (phase.Ready p h) e fits =
-      by-cond (Planned r) (links (r .words) p h header) (λ k. pages-fit p h (r .size .pages) fits) (λ k. tt)
+      by-cond (Planned r) (links (r .words) p h headerFlag) (λ k. pages-fit p h (r .size .pages) fits) (λ k. tt)
 
   pub planned : Planned r (planRead r)
   planned = phase-planned (r .reader .phase) refl (s .phase)
 
   -- ---- what the code asks
 
-  fetch-fits : (f : Fetch) → Planned r f → FetchFits f
+  fetch-fits : (f : Fetch) → Planned r f → FetchPrecondition f
   fetch-fits Event w = tt
   fetch-fits Empty w = tt
   fetch-fits Busy w = tt
@@ -88,7 +88,7 @@ module _ (r : State) (s : InShape r) where
   fetch-fits (Swap p h) w = omega (arith, s)
   fetch-fits Miss w = tt
 
-  pub plan-fits : FetchFits (planRead r)
+  pub plan-fits : FetchPrecondition (planRead r)
   plan-fits = fetch-fits (planRead r) planned
 
   -- the position of an Event
@@ -97,7 +97,7 @@ module _ (r : State) (s : InShape r) where
       let p : Planned r Event = rw e at planned in
       p .1
 
-  pub event-fits : EventFits (planRead r) (r .size) (r .places)
+  pub event-fits : EventPrecondition (planRead r) (r .size) (r .places)
   event-fits e =
       let below = event-here e in
       let most = limit-fits in

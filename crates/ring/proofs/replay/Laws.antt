@@ -13,8 +13,8 @@ use Rattle.rules.specs.Shape.{inShape}
 use Rattle.rules.specs.Act.{act}
 use Rattle.rules.specs.Actions.{Decoded, stopped, codedAt, decoded, decodedFrom}
 use Rattle.ring.specs.Change.{changeOf, changed}
-use Rattle.rules.specs.Replay.{ringAfter, answersOf, answerNumbers, laid, over, laidAt, ranRoom, Reached}
-use Rattle.ring.specs.Replay.{replay, ran}
+use Rattle.rules.specs.Replay.{stateAfter, answersOf, answerNumbers, laid, over, ranBuffer, Reached, replayed, ran}
+use Rattle.ring.specs.Replay.{laidAt}
 use Rattle.rules.specs.declared.codes.Numbers.{Numbers}
 use Rattle.rules.specs.declared.state.Action.{Action}
 use Rattle.rules.specs.declared.state.Answer.{Answer}
@@ -30,13 +30,13 @@ use Rattle.rules.proofs.runs.Reached.{reached-shape}
 abbrev one : Action → List Action
 one a = a ∷ []
 
-after-more : (r : State) (done : List Action) (a : Action) → ringAfter r (done ++ one a) ≡ act (ringAfter r done) a .ring
+after-more : (r : State) (done : List Action) (a : Action) → stateAfter r (done ++ one a) ≡ act (stateAfter r done) a .state
 after-more r [] a = refl
-after-more r (b ∷ done) a = after-more (act r b .ring) done a
+after-more r (b ∷ done) a = after-more (act r b .state) done a
 
-answers-more : (r : State) (done : List Action) (a : Action) → answersOf r (done ++ one a) ≡ answersOf r done ++ (act (ringAfter r done) a .answer ∷ [])
+answers-more : (r : State) (done : List Action) (a : Action) → answersOf r (done ++ one a) ≡ answersOf r done ++ (act (stateAfter r done) a .answer ∷ [])
 answers-more r [] a = refl
-answers-more r (b ∷ done) a = ap (λ (l : List Answer). act r b .answer ∷ l) (answers-more (act r b .ring) done a)
+answers-more r (b ∷ done) a = ap (λ (l : List Answer). act r b .answer ∷ l) (answers-more (act r b .state) done a)
 
 -- the three numbers of an answer
 abbrev three : Numbers → List ℕ
@@ -50,33 +50,33 @@ laid-more (b ∷ answers) a =
 laid-length : (r : State) (done : List Action) → length (laid (answersOf r done)) ≡ answerNumbers * length done
 laid-length r [] = refl
 laid-length r (a ∷ done) =
-    let l = laid-length (act r a .ring) done in
+    let l = laid-length (act r a .state) done in
     omega arith
 
--- ---- the room
+-- ---- the buffer
 
--- a front that fits leaves the room as long as it was
-pub over-length : (front old : List ℕ) → length front ≤ length old → length (over front old) ≡ length old
-over-length front old fits = simp (length-append, length-drop) (omega arith)
+-- a prefix that fits leaves the buffer as long as it was
+pub over-length : (prefix old : List ℕ) → length prefix ≤ length old → length (over prefix old) ≡ length old
+over-length prefix old fits = simp (length-append, length-drop) (omega arith)
 
--- elements stored after a front that is filled make a longer front
-module _ (front es old : List ℕ) (fits : length front + length es ≤ length old) where
-  rest-left : drop (length front + length es) (over front old) ≡ drop (length front + length es) old
-  rest-left = drop-append-add front (drop (length front) old) (length es) ∙ drop-drop (length es) (length front) old
+-- elements stored after a prefix that is filled make a longer prefix
+module _ (prefix es old : List ℕ) (fits : length prefix + length es ≤ length old) where
+  rest-left : drop (length prefix + length es) (over prefix old) ≡ drop (length prefix + length es) old
+  rest-left = drop-append-add prefix (drop (length prefix) old) (length es) ∙ drop-drop (length es) (length prefix) old
 
-  pub sets-over : sets (over front old) (length front) es ≡ over (front ++ es) old
+  pub sets-over : sets (over prefix old) (length prefix) es ≡ over (prefix ++ es) old
   sets-over =
-      sets-eq es (over front old) (length front) (rw (over-length front old (omega arith)) fits)
-      ∙ ap (λ (l : List ℕ). (l ++ es) ++ drop (length front + length es) (over front old)) (take-at front (drop (length front) old) (length front) refl)
-      ∙ ap (λ (l : List ℕ). (front ++ es) ++ l) rest-left
-      ∙ ap (λ (k : ℕ). (front ++ es) ++ drop k old) (sym (length-append front es))
+      sets-eq es (over prefix old) (length prefix) (rw (over-length prefix old (omega arith)) fits)
+      ∙ ap (λ (l : List ℕ). (l ++ es) ++ drop (length prefix + length es) (over prefix old)) (take-at prefix (drop (length prefix) old) (length prefix) refl)
+      ∙ ap (λ (l : List ℕ). (prefix ++ es) ++ l) rest-left
+      ∙ ap (λ (k : ℕ). (prefix ++ es) ++ drop k old) (sym (length-append prefix es))
 
 -- one answer more
-lay-more : (front old : List ℕ) (n : Numbers) → length front + 3 ≤ length old → laidAt (over front old) (length front) n ≡ over (front ++ three n) old
-lay-more front old n fits =
-    let e1 : length front + 1 ≡ suc (length front) = omega arith in
-    let e2 : length front + 2 ≡ suc (suc (length front)) = omega arith in
-    rw (e1, e2) (sets-over front (three n) old fits)
+lay-more : (prefix old : List ℕ) (n : Numbers) → length prefix + 3 ≤ length old → laidAt (over prefix old) (length prefix) n ≡ over (prefix ++ three n) old
+lay-more prefix old n fits =
+    let e1 : length prefix + 1 ≡ suc (length prefix) = omega arith in
+    let e2 : length prefix + 2 ≡ suc (suc (length prefix)) = omega arith in
+    rw (e1, e2) (sets-over prefix (three n) old fits)
 
 -- ---- the loop
 
@@ -87,63 +87,63 @@ ends actions stop = record { actions = actions; stop = stop }
 abbrev beforeAll : List Action → Decoded → Decoded
 beforeAll done d = ends (done ++ d .actions) (d .stop)
 
--- at place `at`, with `made` actions made: the ring r0 has become r, the room room0 has become room, and what is left of the bytes is what is left to do
-pub record Progress (r0 : State) (bytes room0 : List ℕ) (r : State) (room : List ℕ) (at made : ℕ) : Type 0 where
+-- at place `at`, with `made` actions made: the ring r0 has become r, the buffer buffer0 has become buffer, and what is left of the bytes is what is left to do
+pub record Progress (r0 : State) (bytes buffer0 : List ℕ) (r : State) (buffer : List ℕ) (at made : ℕ) : Type 0 where
   pub done : List Action
-  pub ring : r ≡ ringAfter r0 done
-  pub answers : room ≡ over (laid (answersOf r0 done)) room0
+  pub state : r ≡ stateAfter r0 done
+  pub answers : buffer ≡ over (laid (answersOf r0 done)) buffer0
   pub count : made ≡ length done
   pub rest : decoded bytes ≡ beforeAll done (decodedFrom bytes at)
   -- each action took a byte at least
   pub within : at ≤ length bytes
   pub fewer : made ≤ at
 
-pub start : (r : State) (bytes room : List ℕ) → Progress r bytes room r room 0 0
-start r bytes room =
-    record { done = []; ring = refl; answers = refl; count = refl; rest = refl; within = omega arith; fewer = omega arith }
+pub start : (r : State) (bytes buffer : List ℕ) → Progress r bytes buffer r buffer 0 0
+start r bytes buffer =
+    record { done = []; state = refl; answers = refl; count = refl; rest = refl; within = omega arith; fewer = omega arith }
 
-module _ {r0 : State} {bytes room0 : List ℕ} {r : State} {room : List ℕ} {at made : ℕ} (p : Progress r0 bytes room0 r room at made) where
+module _ {r0 : State} {bytes buffer0 : List ℕ} {r : State} {buffer : List ℕ} {at made : ℕ} (p : Progress r0 bytes buffer0 r buffer at made) where
   pub shaped : Reached r0 → inShape r ≡ true
-  shaped h = rw (p .ring) (reached-shape r0 h (p .done))
+  shaped h = rw (p .state) (reached-shape r0 h (p .done))
 
-  -- the room as long as it was, and where the next answer goes
-  front-length : length (laid (answersOf r0 (p .done))) ≡ answerNumbers * made
-  front-length = laid-length r0 (p .done) ∙ ap (λ (k : ℕ). answerNumbers * k) (sym (p .count))
+  -- the buffer as long as it was, and where the next answer goes
+  prefix-length : length (laid (answersOf r0 (p .done))) ≡ answerNumbers * made
+  prefix-length = laid-length r0 (p .done) ∙ ap (λ (k : ℕ). answerNumbers * k) (sym (p .count))
 
-  pub room-length : answerNumbers * length bytes ≤ length room0 → length room ≡ length room0
-  room-length fits =
-      let n = front-length in
+  pub buffer-length : answerNumbers * length bytes ≤ length buffer0 → length buffer ≡ length buffer0
+  buffer-length fits =
+      let n = prefix-length in
       let m = p .fewer in
       let l = p .within in
-      ap length (p .answers) ∙ over-length (laid (answersOf r0 (p .done))) room0 (omega arith)
+      ap length (p .answers) ∙ over-length (laid (answersOf r0 (p .done))) buffer0 (omega arith)
 
   pub turn :
-      {a : Action} {to : ℕ} {r' : State} {room' : List ℕ} →
+      {a : Action} {to : ℕ} {r' : State} {buffer' : List ℕ} →
       Reached r0 →
-      answerNumbers * length bytes ≤ length room0 →
+      answerNumbers * length bytes ≤ length buffer0 →
       codedAt bytes at ≡ Whole a to →
       r' ≡ changed (changeOf r a) r →
-      room' ≡ laidAt room (answerNumbers * made) (changeOf r a .answer) →
-      Progress r0 bytes room0 r' room' to (made + 1)
-  turn {a} {to} {r'} {room'} h fits coded changes lays =
+      buffer' ≡ laidAt buffer (answerNumbers * made) (changeOf r a .answer) →
+      Progress r0 bytes buffer0 r' buffer' to (made + 1)
+  turn {a} {to} {r'} {buffer'} h fits coded changes lays =
       let moves = whole-moves bytes at coded in
       let agrees = change-acts r (shaped h) a in
       let so-far = p .done in
-      let front = laid (answersOf r0 so-far) in
-      let here = act (ringAfter r0 so-far) a .answer in
-      let number : changeOf r a .answer ≡ numbersOf here = sym (agrees .answer) ∙ ap (λ (q : State). numbersOf (act q a .answer)) (p .ring) in
-      let long = front-length in
+      let prefix = laid (answersOf r0 so-far) in
+      let here = act (stateAfter r0 so-far) a .answer in
+      let number : changeOf r a .answer ≡ numbersOf here = sym (agrees .answer) ∙ ap (λ (q : State). numbersOf (act q a .answer)) (p .state) in
+      let long = prefix-length in
       let few = p .fewer in
       record {
         done = so-far ++ one a;
-        ring = changes ∙ sym (agrees .ring) ∙ ap (λ (q : State). act q a .ring) (p .ring) ∙ sym (after-more r0 so-far a);
+        state = changes ∙ sym (agrees .state) ∙ ap (λ (q : State). act q a .state) (p .state) ∙ sym (after-more r0 so-far a);
         answers =
             lays
             ∙ ap (λ (l : List ℕ). laidAt l (answerNumbers * made) (changeOf r a .answer)) (p .answers)
-            ∙ ap (λ (k : ℕ). laidAt (over front room0) k (changeOf r a .answer)) (sym long)
-            ∙ ap (λ (n : Numbers). laidAt (over front room0) (length front) n) number
-            ∙ lay-more front room0 (numbersOf here) (omega arith)
-            ∙ ap (λ (l : List ℕ). over l room0) (sym (laid-more (answersOf r0 so-far) here) ∙ ap laid (sym (answers-more r0 so-far a)));
+            ∙ ap (λ (k : ℕ). laidAt (over prefix buffer0) k (changeOf r a .answer)) (sym long)
+            ∙ ap (λ (n : Numbers). laidAt (over prefix buffer0) (length prefix) n) number
+            ∙ lay-more prefix buffer0 (numbersOf here) (omega arith)
+            ∙ ap (λ (l : List ℕ). over l buffer0) (sym (laid-more (answersOf r0 so-far) here) ∙ ap laid (sym (answers-more r0 so-far a)));
         count = ap (λ (k : ℕ). k + 1) (p .count) ∙ sym (length-append so-far (one a));
         rest =
             p .rest
@@ -154,11 +154,11 @@ module _ {r0 : State} {bytes room0 : List ℕ} {r : State} {room : List ℕ} {at
       }
 
   -- where no whole action stands
-  pub finish : decodedFrom bytes at ≡ stopped at → (replay r Accepted made at ≡ ran r0 (decoded bytes)) × (room ≡ ranRoom r0 (decoded bytes) room0)
+  pub finish : decodedFrom bytes at ≡ stopped at → (replayed r Accepted made at ≡ ran r0 (decoded bytes)) × (buffer ≡ ranBuffer r0 (decoded bytes) buffer0)
   finish e =
       let whole : decoded bytes ≡ ends (p .done) at =
       p .rest ∙ ap (beforeAll (p .done)) e ∙ ap (λ (l : List Action). ends l at) (append-nil (p .done)) in
-      subst (λ (d : Decoded). (replay r Accepted made at ≡ ran r0 d) × (room ≡ ranRoom r0 d room0)) (sym whole) (
-        ap (λ (q : State). replay q Accepted made at) (p .ring) ∙ ap (λ (k : ℕ). replay (ringAfter r0 (p .done)) Accepted k at) (p .count),
+      subst (λ (d : Decoded). (replayed r Accepted made at ≡ ran r0 d) × (buffer ≡ ranBuffer r0 d buffer0)) (sym whole) (
+        ap (λ (q : State). replayed q Accepted made at) (p .state) ∙ ap (λ (k : ℕ). replayed (stateAfter r0 (p .done)) Accepted k at) (p .count),
         p .answers,
       )

@@ -12,15 +12,15 @@ use borrow.Author.Tests.{ltb-true, ltb-false, lt-ltb}
 use lib.Dec.{ltb}
 use lib.ListN.{getD, set}
 use lib.Seq.{append-snoc}
-use Rattle.rules.specs.Limits.{mostPages, slotRoom, normal, header, mostInRow}
+use Rattle.rules.specs.Limits.{mostPages, slotRoom, normalFlag, headerFlag, mostInRow}
 use Rattle.rules.specs.Lists.{tabulate}
 use Rattle.rules.specs.State.{reading, slotIndex, wordAt, placesReader, placesPosition, countsHanded, withReader, withPlaces, withWords, withUsed, withPosition, withHanded, State}
 use Rattle.rules.specs.Words.{pageIn, wordOf}
 use Rattle.rules.specs.Shape.{placesFit, countsFit, readerFits, wordsFit, usedFit, inShape}
 use Rattle.rules.specs.Read.{readLimit, planRead, fetched}
-use Rattle.ring.specs.Pieces.{readAnswer, readPlaces, readPhase, readStores, wordsStored, usedStored, StoresFit}
-use Rattle.rules.specs.Drain.{eventNumber, Drain, noMore, before, afterRead, row, drained}
-use Rattle.ring.specs.Turn.{eventAt, eventsFrom, smaller, eventCount, placesBefore, leftAfter, turn, turnOf, turned, TurnFits}
+use Rattle.ring.specs.Pieces.{readAnswer, readPlaces, readPhase, readStores, wordsStored, usedStored, StoresPrecondition}
+use Rattle.rules.specs.Drain.{eventNumber, DrainOutcome, drainEnds, eventFirst, afterRead, readsInRow, drainReads}
+use Rattle.ring.specs.Turn.{eventAt, eventsFrom, smaller, eventCount, placesBefore, leftAfter, turn, turnOf, turned, TurnPrecondition}
 use Rattle.rules.specs.declared.state.PageNo.{PageNo}
 use Rattle.rules.specs.declared.state.Places.{Places}
 use Rattle.rules.specs.declared.state.Reader.{Reader}
@@ -35,27 +35,27 @@ use Rattle.ring.specs.declared.turn.Turn.{Turn}
 use Rattle.rules.proofs.Lists.{by-cond}
 use Rattle.rules.proofs.shape.Laws.{InShape, in-shape, pages-true, places-true, counts-true}
 use Rattle.rules.proofs.state.Laws.{slotIndex-room}
-use Rattle.ring.proofs.pieces.Laws.{read-stores-fit}
+use Rattle.ring.proofs.pieces.Laws.{read-stores-precondition}
 use Rattle.ring.proofs.read.Laws.{Planned, limit-fits, next-fits, planned, plan-fits, event-here}
 use Rattle.rules.proofs.read.Kept.{Parts, parts, reshaped, word-fits, set-word, no-used}
 
 -- ---- what is left of a drain
 
--- with room for so many elements, and so many Reads before the next Event
-abbrev pub goOn : ℕ → ℕ → State → Last → Drain
-goOn zero left r last = noMore r last
-goOn (suc room) left r last = row (drained mostInRow room) left r last
+-- with space for so many elements, and so many Reads before the next Event
+abbrev pub goOn : ℕ → ℕ → State → Last → DrainOutcome
+goOn zero left r last = drainEnds r last
+goOn (suc space) left r last = readsInRow (drainReads mostInRow space) left r last
 
-pub go-on : (room : ℕ) (r : State) (last : Last) → drained mostInRow room r last ≡ goOn room mostInRow r last
+pub go-on : (space : ℕ) (r : State) (last : Last) → drainReads mostInRow space r last ≡ goOn space mostInRow r last
 go-on zero r last = refl
-go-on (suc room) r last = refl
+go-on (suc space) r last = refl
 
 -- some events before others
-abbrev pub beforeAll : List ℕ → Drain → Drain
-beforeAll es d = record { ring = d .ring; events = es ++ d .events; last = d .last }
+abbrev pub eventsFirst : List ℕ → DrainOutcome → DrainOutcome
+eventsFirst es d = record { state = d .state; events = es ++ d .events; last = d .last }
 
-beforeAll-more : (es : List ℕ) (e : ℕ) (d : Drain) → beforeAll es (before e d) ≡ beforeAll (es ++ (e ∷ [])) d
-beforeAll-more es e d = ap (λ (l : List ℕ). record { ring = d .ring; events = l; last = d .last }) (sym (append-snoc es e (d .events)))
+eventsFirst-more : (es : List ℕ) (e : ℕ) (d : DrainOutcome) → eventsFirst es (eventFirst e d) ≡ eventsFirst (es ++ (e ∷ [])) d
+eventsFirst-more es e d = ap (λ (l : List ℕ). record { state = d .state; events = l; last = d .last }) (sym (append-snoc es e (d .events)))
 
 -- one Read of a ring in shape
 module _ (q : State) (n l : ℕ) (last : Last) where
@@ -63,7 +63,7 @@ module _ (q : State) (n l : ℕ) (last : Last) where
       {f : Fetch} →
       inShape q ≡ true →
       f ≡ planRead q →
-      goOn (suc n) (suc l) q last ≡ afterRead (drained mostInRow n) (row (drained mostInRow n) l) (fetched f q)
+      goOn (suc n) (suc l) q last ≡ afterRead (drainReads mostInRow n) (readsInRow (drainReads mostInRow n) l) (fetched f q)
   step shape e = rw (shape, ← e)
 
 -- ---- the pieces that fit
@@ -135,33 +135,33 @@ module _ (r : State) where
         (j n l : ℕ) (last : Last) →
         inShape (out j r) ≡ true →
         r .places .position + j < readLimit (r .places) (r .used) →
-        goOn (suc n) (suc l) (out j r) last ≡ before (event j) (goOn n mostInRow (out (suc j) r) (Given (eventAnswer j)))
+        goOn (suc n) (suc l) (out j r) last ≡ eventFirst (event j) (goOn n mostInRow (out (suc j) r) (Given (eventAnswer j)))
     one-more j n l last shape lt =
         step (out j r) n l last shape (out-plan j lt)
-        ∙ ap (λ (k : ℕ). before k (drained mostInRow n (out 1 (out j r)) (Given (eventAnswer j)))) (event-told j)
-        ∙ ap (λ (q : State). before (event j) (drained mostInRow n q (Given (eventAnswer j)))) (out-more j)
-        ∙ ap (before (event j)) (go-on n (out (suc j) r) (Given (eventAnswer j)))
+        ∙ ap (λ (k : ℕ). eventFirst k (drainReads mostInRow n (out 1 (out j r)) (Given (eventAnswer j)))) (event-told j)
+        ∙ ap (λ (q : State). eventFirst (event j) (drainReads mostInRow n q (Given (eventAnswer j)))) (out-more j)
+        ∙ ap (eventFirst (event j)) (go-on n (out (suc j) r) (Given (eventAnswer j)))
 
     -- j + 1 Events
     run :
-        (j room l : ℕ) (last : Last) →
+        (j space l : ℕ) (last : Last) →
         r .places .position + j < readLimit (r .places) (r .used) →
-        j < room →
+        j < space →
         r .counts .handed + j + r .counts .overwritten ≤ r .counts .committed →
-        goOn room (suc l) r last ≡ beforeAll (tabulate (suc j) event) (goOn (room - suc j) mostInRow (out (suc j) r) (Given (eventAnswer j)))
-    run zero room l last lt some agree =
+        goOn space (suc l) r last ≡ eventsFirst (tabulate (suc j) event) (goOn (space - suc j) mostInRow (out (suc j) r) (Given (eventAnswer j)))
+    run zero space l last lt some agree =
         let most = limit-fits r (in-shape r whole) in
-        let n : room ≡ suc (room - 1) = omega arith in
+        let n : space ≡ suc (space - 1) = omega arith in
         ap (λ (k : ℕ). goOn k (suc l) r last) n
-        ∙ ap (λ (q : State). goOn (suc (room - 1)) (suc l) q last) (sym out-none)
-        ∙ one-more 0 (room - 1) l last (out-shape 0 (omega arith) agree) lt
-    run (suc j) room l last lt some agree =
+        ∙ ap (λ (q : State). goOn (suc (space - 1)) (suc l) q last) (sym out-none)
+        ∙ one-more 0 (space - 1) l last (out-shape 0 (omega arith) agree) lt
+    run (suc j) space l last lt some agree =
         let most = limit-fits r (in-shape r whole) in
-        let n : room - suc j ≡ suc (room - suc (suc j)) = omega arith in
-        run j room l last (omega arith) (omega arith) (omega arith)
-        ∙ ap (λ (k : ℕ). beforeAll (tabulate (suc j) event) (goOn k mostInRow (out (suc j) r) (Given (eventAnswer j)))) n
-        ∙ ap (beforeAll (tabulate (suc j) event)) (one-more (suc j) (room - suc (suc j)) (mostInRow - 1) (Given (eventAnswer j)) (out-shape (suc j) (omega arith) agree) lt)
-        ∙ beforeAll-more (tabulate (suc j) event) (event (suc j)) (goOn (room - suc (suc j)) mostInRow (out (suc (suc j)) r) (Given (eventAnswer (suc j))))
+        let n : space - suc j ≡ suc (space - suc (suc j)) = omega arith in
+        run j space l last (omega arith) (omega arith) (omega arith)
+        ∙ ap (λ (k : ℕ). eventsFirst (tabulate (suc j) event) (goOn k mostInRow (out (suc j) r) (Given (eventAnswer j)))) n
+        ∙ ap (eventsFirst (tabulate (suc j) event)) (one-more (suc j) (space - suc (suc j)) (mostInRow - 1) (Given (eventAnswer j)) (out-shape (suc j) (omega arith) agree) lt)
+        ∙ eventsFirst-more (tabulate (suc j) event) (event (suc j)) (goOn (space - suc (suc j)) mostInRow (out (suc (suc j)) r) (Given (eventAnswer (suc j))))
 
 -- the smaller of two is at most either, and not 0 if neither is
 smaller-is : (a b : ℕ) → 0 < a → 0 < b → (smaller a b ≤ a) × (smaller a b ≤ b) × (0 < smaller a b)
@@ -172,21 +172,21 @@ smaller-is a b ha hb =
 
 -- ---- what a turn does
 
-pub record Turned (r : State) (room left : ℕ) (last : Last) (t : Turn) : Type 0 where
+pub record Turned (r : State) (space left : ℕ) (last : Last) (t : Turn) : Type 0 where
   -- all of the shape but the counts, and these at most one off
   pub shape : inShape (withHanded 0 (turned t r)) ≡ true
   pub agree : t .handed + r .counts .overwritten ≤ r .counts .committed + 1
   -- the Reads that it makes
   pub rest :
-      goOn room left r last
-      ≡ beforeAll (eventsFrom (r .numbers) (r .values) (t .from) (t .count)) (goOn (room - t .count) (t .left) (turned t r) (t .last))
-  -- there is room for the Events, and their slots are the reader page's
-  pub count : t .count ≤ room
+      goOn space left r last
+      ≡ eventsFirst (eventsFrom (r .numbers) (r .values) (t .from) (t .count)) (goOn (space - t .count) (t .left) (turned t r) (t .last))
+  -- there is space for the Events, and their slots are the reader page's
+  pub count : t .count ≤ space
   pub slots : r .places .position + t .count ≤ r .size .slots
   -- it leaves less to do
-  pub less : (room - t .count) * suc mostInRow + t .left < room * suc mostInRow + left
+  pub less : (space - t .count) * suc mostInRow + t .left < space * suc mostInRow + left
 
-module _ (r : State) (whole : inShape r ≡ true) (room left : ℕ) (last : Last) (some : 0 < room) (more : 0 < left) where
+module _ (r : State) (whole : inShape r ≡ true) (space left : ℕ) (last : Last) (some : 0 < space) (more : 0 < left) where
   abbrev shaped : InShape r
   shaped = in-shape r whole
 
@@ -206,20 +206,20 @@ module _ (r : State) (whole : inShape r ≡ true) (room left : ℕ) (last : Last
   other :
       (f : Fetch) →
       f ≡ planRead r →
-      leaves f (r .places .position) (r .counts .handed) ≡ fetched f r .ring →
+      leaves f (r .places .position) (r .counts .handed) ≡ fetched f r .state →
       readAnswer f (r .size) (placesBefore (r .places) 0) (r .numbers) (r .values) ≡ fetched f r .answer →
-      afterRead (drained mostInRow (room - 1)) (row (drained mostInRow (room - 1)) (left - 1)) (fetched f r)
-      ≡ goOn (suc (room - 1)) (leftAfter f left) (fetched f r .ring) (Given (fetched f r .answer)) →
+      afterRead (drainReads mostInRow (space - 1)) (readsInRow (drainReads mostInRow (space - 1)) (left - 1)) (fetched f r)
+      ≡ goOn (suc (space - 1)) (leftAfter f left) (fetched f r .state) (Given (fetched f r .answer)) →
       leftAfter f left < left →
       inShape (withHanded 0 (turned (with f 0) r)) ≡ true →
-      Turned r room left last (with f 0)
+      Turned r space left last (with f 0)
   other f plan ring answer kind fewer shape =
-      let n : room ≡ suc (room - 1) = omega arith in
-      let m : suc (room - 1) ≡ room - 0 = omega arith in
+      let n : space ≡ suc (space - 1) = omega arith in
+      let m : suc (space - 1) ≡ space - 0 = omega arith in
       let l : left ≡ suc (left - 1) = omega arith in
       let p : r .places .position ≡ r .places .position + 0 = omega arith in
       let h : r .counts .handed ≡ r .counts .handed + 0 = omega arith in
-      let same : fetched f r .ring ≡ turned (with f 0) r =
+      let same : fetched f r .state ≡ turned (with f 0) r =
       sym ring ∙ ap (λ (k : ℕ). leaves f k (r .counts .handed)) p ∙ ap (leaves f (r .places .position + 0)) h in
       let s = shaped in
       record {
@@ -227,12 +227,12 @@ module _ (r : State) (whole : inShape r ≡ true) (room left : ℕ) (last : Last
         agree = omega (arith, s);
         rest =
             ap (λ (k : ℕ). goOn k left r last) n
-            ∙ ap (λ (k : ℕ). goOn (suc (room - 1)) k r last) l
-            ∙ step r (room - 1) (left - 1) last whole plan
+            ∙ ap (λ (k : ℕ). goOn (suc (space - 1)) k r last) l
+            ∙ step r (space - 1) (left - 1) last whole plan
             ∙ kind
-            ∙ ap (λ (k : ℕ). goOn k (leftAfter f left) (fetched f r .ring) (Given (fetched f r .answer))) m
-            ∙ ap (λ (q : State). goOn (room - 0) (leftAfter f left) q (Given (fetched f r .answer))) same
-            ∙ ap (λ (a : Answer). goOn (room - 0) (leftAfter f left) (turned (with f 0) r) (Given a)) (sym answer);
+            ∙ ap (λ (k : ℕ). goOn k (leftAfter f left) (fetched f r .state) (Given (fetched f r .answer))) m
+            ∙ ap (λ (q : State). goOn (space - 0) (leftAfter f left) q (Given (fetched f r .answer))) same
+            ∙ ap (λ (a : Answer). goOn (space - 0) (leftAfter f left) (turned (with f 0) r) (Given a)) (sym answer);
         count = omega arith;
         slots = omega (arith, s);
         less = omega arith;
@@ -265,9 +265,9 @@ module _ (r : State) (whole : inShape r ≡ true) (room left : ℕ) (last : Last
       r .reader .phase ≡ phase.Idle →
       (j : ℕ) →
       r .places .position + suc j ≤ readLimit (r .places) (r .used) →
-      suc j ≤ room →
+      suc j ≤ space →
       r .counts .handed + suc j + r .counts .overwritten ≤ r .counts .committed + 1 →
-      Turned r room left last (with Event (suc j))
+      Turned r space left last (with Event (suc j))
   events idle j here fits agree =
       let s = shaped in
       let most = limit-fits r s in
@@ -279,25 +279,25 @@ module _ (r : State) (whole : inShape r ≡ true) (room left : ℕ) (last : Last
         shape = kept then (r .reader) (r .words) (r .used) (position-fits r s (r .places .position + (suc j - 1) + 1) (omega arith)) (fit .reader-fits) (fit .words-fit) (fit .used-fit);
         agree = agree;
         rest =
-            ap (λ (n : ℕ). goOn room n r last) l
-            ∙ run r whole idle j room (left - 1) last (omega arith) fits (omega arith)
-            ∙ ap (λ (n : ℕ). beforeAll (tabulate (suc j) (event r)) (goOn (room - suc j) mostInRow (withPosition n (withHanded (r .counts .handed + suc j) r)) (Given (eventAnswer r j)))) p
-            ∙ ap (λ (n : ℕ). beforeAll (tabulate (suc j) (event r)) (goOn (room - suc j) mostInRow (turned (with Event (suc j)) r) (Given (eventAnswer r n)))) k;
+            ap (λ (n : ℕ). goOn space n r last) l
+            ∙ run r whole idle j space (left - 1) last (omega arith) fits (omega arith)
+            ∙ ap (λ (n : ℕ). eventsFirst (tabulate (suc j) (event r)) (goOn (space - suc j) mostInRow (withPosition n (withHanded (r .counts .handed + suc j) r)) (Given (eventAnswer r j)))) p
+            ∙ ap (λ (n : ℕ). eventsFirst (tabulate (suc j) (event r)) (goOn (space - suc j) mostInRow (turned (with Event (suc j)) r) (Given (eventAnswer r n)))) k;
         count = fits;
         slots = omega arith;
         less = omega arith;
       }
 
-  by-rule : (f : Fetch) → f ≡ planRead r → Planned r f → Turned r room left last (with f (eventCount f (r .places) (r .counts) (r .used) room))
+  by-rule : (f : Fetch) → f ≡ planRead r → Planned r f → Turned r space left last (with f (eventCount f (r .places) (r .counts) (r .used) space))
   by-rule Event plan h =
       let s = shaped in
       let here = readLimit (r .places) (r .used) - r .places .position in
       let allowed = r .counts .committed + 1 - (r .counts .handed + r .counts .overwritten) in
-      let two = smaller-is here room (omega (arith, h .1)) some in
-      let three = smaller-is (smaller here room) allowed (two .2) (omega (arith, s)) in
-      let n = smaller (smaller here room) allowed in
+      let two = smaller-is here space (omega (arith, h .1)) some in
+      let three = smaller-is (smaller here space) allowed (two .2) (omega (arith, s)) in
+      let n = smaller (smaller here space) allowed in
       let e : suc (n - 1) ≡ n = omega (arith, three .2) in
-      subst (λ (k : ℕ). Turned r room left last (with Event k)) e
+      subst (λ (k : ℕ). Turned r space left last (with Event k)) e
       (events (h .0) (n - 1) (omega (arith, two .0, three .0, h .1)) (omega (arith, two .1, three .0)) (omega (arith, three .1, s)))
   by-rule Empty plan h =
       other Empty plan refl refl refl more (kept (placesBefore (r .places) 0) (r .reader) (r .words) (r .used) still (fit .reader-fits) (fit .words-fit) (fit .used-fit))
@@ -307,32 +307,32 @@ module _ (r : State) (whole : inShape r ≡ true) (room left : ℕ) (last : Last
       other (Find p q) plan refl refl refl (omega arith)
       (kept (placesBefore (r .places) 0) (record { phase = phase.Found p q }) (r .words) (r .used) still (pages-true p q (r .size .pages) (h .0) (h .1)) (fit .words-fit) (fit .used-fit))
   by-rule (Prepare p q) plan h =
-      let w = wordOf (pageIn (wordAt (r .words) q)) header in
+      let w = wordOf (pageIn (wordAt (r .words) q)) headerFlag in
       let words = set (r .words) (r .places .reader .0) w in
       other (Prepare p q) plan refl refl refl (omega arith)
       (kept (placesBefore (r .places) 0) (record { phase = phase.Ready p q }) words (r .used) still (pages-true p q (r .size .pages) (h .0) (h .1))
       (set-word (r .size .pages) (r .words) (r .places .reader .0) w (fit .words-fit)
-      (word-fits (r .size .pages) (pageIn (wordAt (r .words) q)) header (next-fits r shaped (q .0) (h .1)) (omega arith)))
+      (word-fits (r .size .pages) (pageIn (wordAt (r .words) q)) headerFlag (next-fits r shaped (q .0) (h .1)) (omega arith)))
       (fit .used-fit))
   by-rule (Swap p q) plan h =
       let s = shaped in
-      let w = wordOf (r .places .reader) normal in
+      let w = wordOf (r .places .reader) normalFlag in
       let words = set (r .words) (p .0) w in
       other (Swap p q) plan refl refl refl (omega arith)
       (kept (placesReader q (placesPosition 0 (r .places))) (record { phase = phase.Idle }) words (set (r .used) (r .places .reader .0) 0) (swap-fits r s q (h .1)) refl
-      (set-word (r .size .pages) (r .words) (p .0) w (fit .words-fit) (word-fits (r .size .pages) (r .places .reader) normal (s .reader) (omega arith)))
+      (set-word (r .size .pages) (r .words) (p .0) w (fit .words-fit) (word-fits (r .size .pages) (r .places .reader) normalFlag (s .reader) (omega arith)))
       (no-used (r .size .pages) (r .used) (r .size .slots) (r .places .reader .0) (fit .used-fit)))
   by-rule Miss plan h =
       other Miss plan refl refl refl (omega arith)
       (kept (placesBefore (r .places) 0) (record { phase = phase.Idle }) (r .words) (r .used) still refl (fit .words-fit) (fit .used-fit))
 
-  pub turn-drains : Turned r room left last (turnOf r left room)
+  pub turn-drains : Turned r space left last (turnOf r left space)
   turn-drains = by-rule (planRead r) refl (planned r shaped)
 
   -- ---- what the code asks of the pieces
 
-  pub turn-fits : TurnFits left room (r .size) (r .places) (r .counts) (r .reader) (r .words) (r .used)
-  turn-fits =
+  pub turn-precondition : TurnPrecondition left space (r .size) (r .places) (r .counts) (r .reader) (r .words) (r .used)
+  turn-precondition =
       let s = shaped in
       let few = turn-drains .slots in
       record {
@@ -350,13 +350,13 @@ module _ (r : State) (whole : inShape r ≡ true) (room left : ℕ) (last : Last
             slotIndex-room (r .size) (r .places .reader) _ (omega (arith, s)) (s .slots-most) (omega (arith, s));
       }
 
-  pub turn-stores : StoresFit (turnOf r left room .stores)
+  pub turn-stores : StoresPrecondition (turnOf r left space .stores)
   turn-stores =
       let s = shaped in
-      read-stores-fit (r .places .reader) (r .words) (planRead r) (plan-fits r s) (omega (arith, s))
+      read-stores-precondition (r .places .reader) (r .words) (planRead r) (plan-fits r s) (omega (arith, s))
 
   -- the slots told are within the arrays
-  pub turn-slots : turnOf r left room .from + turnOf r left room .count ≤ slotRoom
+  pub turn-slots : turnOf r left space .from + turnOf r left space .count ≤ slotRoom
   turn-slots =
       let s = shaped in
       let few = turn-drains .slots in

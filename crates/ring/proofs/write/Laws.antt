@@ -6,13 +6,13 @@ use Prim.Native.Nat.{ℕ, _-_, _≤_}
 use native.Mathlib.Omega.{arith}
 use borrow.Author.Tests.{eqb-false, ltb-true}
 use lib.Dec.{eqb, ltb}
-use Rattle.rules.specs.Limits.{mostPages, stop, header, update}
+use Rattle.rules.specs.Limits.{mostPages, stopMode, headerFlag, updateFlag}
 use Rattle.rules.specs.State.{wordAt, usedAt, top, State}
 use Rattle.rules.specs.Refusals.{writeVerdict}
 use Rattle.rules.specs.Words.{pageIn, flagIn, samePage, readerOnCommit, links, findHeader}
 use Rattle.rules.specs.Shape.{pagesFit, writerFits}
 use Rattle.rules.specs.Write.{planFull, promoteBy, planPhase, planWrite}
-use Rattle.ring.specs.Pieces.{MoveFits}
+use Rattle.ring.specs.Pieces.{MovePrecondition}
 use Rattle.rules.specs.declared.state.PageNo.{PageNo}
 use Rattle.rules.specs.declared.state.WriterPhase.{WriterPhase}
 use Rattle.rules.specs.declared.state.WriterPhase.the-variants as phase
@@ -35,16 +35,16 @@ allows true depth h =
     (λ d. record { shape = refl; somebody = eqb-false depth 0 d })
 
 -- a full tail page leads to a drop or to another phase, which name nothing to store to
-full-fits : (r : State) (n : PageNo) (flag : ℕ) → MoveFits (planFull (r .size) (r .places) n flag)
+full-fits : (r : State) (n : PageNo) (flag : ℕ) → MovePrecondition (planFull (r .size) (r .places) n flag)
 full-fits r n flag =
-    by-cond MoveFits (samePage (r .places .tail) (r .places .reader)) (λ e. tt) (λ e.
-    by-cond MoveFits (samePage n (r .places .commit)) (λ e. tt) (λ e.
-    by-cond MoveFits (eqb flag header && readerOnCommit (r .places)) (λ e. tt) (λ e.
-    by-cond MoveFits (eqb flag header && eqb (r .size .mode) stop) (λ e. tt) (λ e.
-    by-cond MoveFits (eqb flag header || eqb flag update) (λ e. tt) (λ e. tt)))))
+    by-cond MovePrecondition (samePage (r .places .tail) (r .places .reader)) (λ e. tt) (λ e.
+    by-cond MovePrecondition (samePage n (r .places .commit)) (λ e. tt) (λ e.
+    by-cond MovePrecondition (eqb flag headerFlag && readerOnCommit (r .places)) (λ e. tt) (λ e.
+    by-cond MovePrecondition (eqb flag headerFlag && eqb (r .size .mode) stopMode) (λ e. tt) (λ e.
+    by-cond MovePrecondition (eqb flag headerFlag || eqb flag updateFlag) (λ e. tt) (λ e. tt)))))
 
 -- PROMOTE names n alone, whatever was found
-promote-fits : (found : Search) (n : PageNo) (next : WriterPhase) → n .0 ≤ mostPages → MoveFits (promoteBy found n next)
+promote-fits : (found : Search) (n : PageNo) (next : WriterPhase) → n .0 ≤ mostPages → MovePrecondition (promoteBy found n next)
 promote-fits (At p h) n next le = tt
 promote-fits Nowhere n next le = le
 
@@ -54,28 +54,28 @@ module _ (r : State) (s : InShape r) where
       let f = pages-fit t n (r .size .pages) h in
       (omega (arith, s), omega (arith, s))
 
-  phase-fits : (ph : WriterPhase) → writerFits ph (r .size) ≡ true → MoveFits (planPhase ph (r .size) (r .places) (r .depth) (r .words) (r .used))
+  phase-fits : (ph : WriterPhase) → writerFits ph (r .size) ≡ true → MovePrecondition (planPhase ph (r .size) (r .places) (r .depth) (r .words) (r .used))
   phase-fits phase.Want h =
-      by-cond MoveFits (ltb (usedAt (r .used) (r .places .tail)) (r .size .slots))
+      by-cond MovePrecondition (ltb (usedAt (r .used) (r .places .tail)) (r .size .slots))
       (λ e. (omega (arith, s), omega (arith, s, ltb-true (usedAt (r .used) (r .places .tail)) (r .size .slots) e)))
       (λ e. full-fits r (pageIn (wordAt (r .words) (r .places .tail))) (flagIn (wordAt (r .words) (r .places .tail))))
   phase-fits (phase.Mark t n) h =
-      by-cond MoveFits (links (r .words) t n header)
+      by-cond MovePrecondition (links (r .words) t n headerFlag)
       (λ e. pages-room t n h)
-      (λ e. by-cond MoveFits (links (r .words) t n update) (λ e. tt) (λ e. tt))
+      (λ e. by-cond MovePrecondition (links (r .words) t n updateFlag) (λ e. tt) (λ e. tt))
   phase-fits (phase.Promote t n own) h =
       promote-fits (findHeader (r .words) (r .size .pages) (r .places .reader)) n _ (pages-room t n h .1)
-  phase-fits (phase.Clear t n) h = by-cond MoveFits (links (r .words) t n update) (λ e. pages-room t n h) (λ e. tt)
-  phase-fits (phase.Push t n) h = by-cond MoveFits (samePage (r .places .tail) t) (λ e. pages-room t n h .1) (λ e. tt)
+  phase-fits (phase.Clear t n) h = by-cond MovePrecondition (links (r .words) t n updateFlag) (λ e. pages-room t n h) (λ e. tt)
+  phase-fits (phase.Push t n) h = by-cond MovePrecondition (samePage (r .places .tail) t) (λ e. pages-room t n h .1) (λ e. tt)
   phase-fits (phase.Held p slot) h =
       let f = held-fits p slot (r .size) h in
       (omega (arith, s), omega (arith, s))
-  phase-fits phase.Filled h = by-cond MoveFits (eqb (r .depth) 1) (λ e. tt) (λ e. tt)
+  phase-fits phase.Filled h = by-cond MovePrecondition (eqb (r .depth) 1) (λ e. tt) (λ e. tt)
 
   module _ (somebody : r .depth ≡ 0 → ⊥) where
     -- the top record's phase fits, and so does the move that it leads to
     pub top-fits : writerFits (top r .phase) (r .size) ≡ true
     top-fits = s .record-at (r .depth - 1) (omega arith)
 
-    pub plan-fits : MoveFits (planWrite r)
+    pub plan-fits : MovePrecondition (planWrite r)
     plan-fits = phase-fits (top r .phase) top-fits

@@ -60,7 +60,7 @@ module _ {s : State} {h : History} {L : ℕ → ℕ} {pc pt a r0 gap : ℕ} (b :
   earlies-new : earlies stack' (s .depth + 1) ≡ 1 + earlies (s .stack) (s .depth)
   earlies-new = rw add-one (earlies-top (s .stack) (s .depth) new room)
 
-  pub begun-accounts : Accounts (begin v s .ring) (onBegun v h) L pc pt a r0 gap
+  pub begun-accounts : Accounts (begin v s .state) (onBegun v h) L pc pt a r0 gap
   begun-accounts =
       record {
         contents = b .contents;

@@ -9,9 +9,9 @@ use lib.ListN.{length, getD, length-append, List·getD-append}
 use lib.Seq.{getD-at}
 use Rattle.rules.specs.State.{numberAt, valueAt, State}
 use Rattle.rules.specs.Read.{handOut}
-use Rattle.rules.specs.Remember.{Given, History}
+use Rattle.rules.specs.Remember.{ReadEvent, History}
 use Rattle.rules.specs.History.{onEvent}
-use Rattle.rules.specs.Demand.{ungiven, GivenIn}
+use Rattle.rules.specs.Demand.{noEvent, EventIn}
 use Rattle.rules.specs.declared.state.ReaderPhase.{ReaderPhase}
 use Rattle.rules.specs.declared.state.ReaderPhase.the-variants as reading
 use Rattle.rules.proofs.Lists.{by-eq, by-lt}
@@ -28,10 +28,10 @@ module _ {s : State} {h : History} {L : ℕ → ℕ} {pc pt a r0 gap : ℕ} (v :
   abbrev m : ℕ
   m = numberAt s (s .places .reader) (s .places .position)
 
-  abbrev new : Given
+  abbrev new : ReadEvent
   new = record { number = numberAt s (s .places .reader) (s .places .position); value = valueAt s (s .places .reader) (s .places .position) }
 
-  abbrev events' : List Given
+  abbrev events' : List ReadEvent
   events' = h .events ++ (record { number = numberAt s (s .places .reader) (s .places .position); value = valueAt s (s .places .reader) (s .places .position) } ∷ [])
 
   m-is : m ≡ r0 + position
@@ -46,17 +46,17 @@ module _ {s : State} {h : History} {L : ℕ → ℕ} {pc pt a r0 gap : ℕ} (v :
 
   -- ---- the Events, one more
 
-  old-event : (k : ℕ) → k < length (h .events) → getD events' k ungiven ≡ getD (h .events) k ungiven
-  old-event k hk = List·getD-append (h .events) (new ∷ []) ungiven k hk
+  old-event : (k : ℕ) → k < length (h .events) → getD events' k noEvent ≡ getD (h .events) k noEvent
+  old-event k hk = List·getD-append (h .events) (new ∷ []) noEvent k hk
 
-  last-event : (k : ℕ) → length (h .events) ≡ k → getD events' k ungiven ≡ new
-  last-event k q = getD-at (h .events) new [] ungiven k q
+  last-event : (k : ℕ) → length (h .events) ≡ k → getD events' k noEvent ≡ new
+  last-event k q = getD-at (h .events) new [] noEvent k q
 
   size : length events' ≡ length (h .events) + 1
   size = length-append (h .events) (new ∷ [])
 
-  event-cases : {A : Type 0} (k : ℕ) → k < length events' → (k < length (h .events) → getD events' k ungiven ≡ getD (h .events) k ungiven → A)
-      → (length (h .events) ≡ k → getD events' k ungiven ≡ new → A) → A
+  event-cases : {A : Type 0} (k : ℕ) → k < length events' → (k < length (h .events) → getD events' k noEvent ≡ getD (h .events) k noEvent → A)
+      → (length (h .events) ≡ k → getD events' k noEvent ≡ new → A) → A
   event-cases k hk old last =
       by-lt k (length (h .events))
       (λ lt. old lt (old-event k lt))
@@ -64,13 +64,13 @@ module _ {s : State} {h : History} {L : ℕ → ℕ} {pc pt a r0 gap : ℕ} (v :
       let z : length (h .events) ≡ k = omega (arith, size) in
       last z (last-event k z))
 
-  number-of : {y z : Given} → y ≡ z → y .number ≡ z .number
-  number-of q = ap (λ (g : Given). g .number) q
+  number-of : {y z : ReadEvent} → y ≡ z → y .number ≡ z .number
+  number-of q = ap (λ (g : ReadEvent). g .number) q
 
-  value-of : {y z : Given} → y ≡ z → y .value ≡ z .value
-  value-of q = ap (λ (g : Given). g .value) q
+  value-of : {y z : ReadEvent} → y ≡ z → y .value ≡ z .value
+  value-of q = ap (λ (g : ReadEvent). g .value) q
 
-  given-before : {n : ℕ} → GivenIn (h .events) n → GivenIn events' n
+  given-before : {n : ℕ} → EventIn (h .events) n → EventIn events' n
   given-before o =
       let e = o .event in
       record { nth = o .nth; event = record { below = omega (arith, size, e .below); gave = number-of (old-event (o .nth) (e .below)) ∙ e .gave } }

@@ -13,7 +13,7 @@ use lib.ListN.{length}
 use Rattle.rules.specs.declared.state.Action.{Action}
 use Rattle.rules.specs.declared.actions.Coded.{Coded}
 use Rattle.rules.specs.declared.actions.Coded.the-variants.{Whole, Broken, End}
-use Rattle.rules.specs.Actions.{Decoded, beginCode, writeCode, readCode, beginLength, byteAt, beginAt, codedAt, stopped, before, goOn, decodedWithin, decodedFrom, Stops, Decodes}
+use Rattle.rules.specs.Actions.{Decoded, beginCode, writeCode, readCode, beginLength, byteAt, beginAt, codedAt, stopped, actionFirst, goOn, decodedWithin, decodedFrom, Stops, Decodes}
 use Rattle.rules.proofs.actions.Coded.{the-type}
 use Rattle.rules.proofs.Lists.{by-cond}
 
@@ -45,7 +45,7 @@ module _ (bytes : List ℕ) (at : ℕ) where
 
   -- where the two ways to go on agree at every later place, they agree here
   same-rest : (f g : ℕ → Decoded) (c : Coded) → codedAt bytes at ≡ c → ((next : ℕ) → at < next → f next ≡ g next) → goOn c f at ≡ goOn c g at
-  same-rest f g (Whole a next) e h = ap (before a) (h next (whole-moves e .0))
+  same-rest f g (Whole a next) e h = ap (actionFirst a) (h next (whole-moves e .0))
   same-rest f g Broken e h = refl
   same-rest f g End e h = refl
 
@@ -89,7 +89,7 @@ module _ (bytes : List ℕ) (at : ℕ) where
       ∙ same-rest bytes at (decodedWithin (length bytes - at) bytes) (λ next. decodedWithin (length bytes - next) bytes next) (codedAt bytes at) refl
       (λ next n. enough bytes (length bytes - at) (length bytes - next) next (omega arith) (omega arith))
 
-  pub decoded-whole : {a : Action} {next : ℕ} → codedAt bytes at ≡ Whole a next → decodedFrom bytes at ≡ before a (decodedFrom bytes next)
+  pub decoded-whole : {a : Action} {next : ℕ} → codedAt bytes at ≡ Whole a next → decodedFrom bytes at ≡ actionFirst a (decodedFrom bytes next)
   decoded-whole e = one-more ∙ ap (λ (c : Coded). goOn c (decodedFrom bytes) at) e
 
   stops : (c : Coded) → Stops c → goOn c (decodedFrom bytes) at ≡ stopped at

@@ -9,7 +9,7 @@ use borrow.Author.Tests.{le-leb, leb-true, leb-false}
 use lib.Dec.{eqb, leb, ltb}
 use lib.ListN.{length, drop, length-drop}
 use lib.Seq.{getD-drop}
-use Rattle.rules.specs.Actions.{Decoded, beginCode, writeCode, readCode, beginLength, byteAt, valueAt, beginAt, codedAt, before, goOn, decodedWithin, decodedFrom, decoded}
+use Rattle.rules.specs.Actions.{Decoded, beginCode, writeCode, readCode, beginLength, byteAt, beginValue, beginAt, codedAt, actionFirst, goOn, decodedWithin, decodedFrom, decoded}
 use Rattle.rules.specs.declared.state.Action.{Action}
 use Rattle.rules.specs.declared.state.Action.the-variants.{Begin, Write, Read}
 use Rattle.rules.specs.declared.actions.Coded.{Coded}
@@ -66,7 +66,7 @@ module _ (bytes : List ℕ) (from : ℕ) (l : from ≤ length bytes) where
       let e : from + i + k ≡ from + (i + k) = omega arith in
       ap (Whole a) e
 
-  value-same : (i : ℕ) → valueAt bytes (from + i) ≡ valueAt part i
+  value-same : (i : ℕ) → beginValue bytes (from + i) ≡ beginValue part i
   value-same i = rw (byte-after i 1, byte-after i 2, byte-after i 3, byte-after i 4)
 
   begin-moved : (i : ℕ) → beginAt bytes (from + i) ≡ moved from (beginAt part i)
@@ -74,10 +74,10 @@ module _ (bytes : List ℕ) (from : ℕ) (l : from ≤ length bytes) where
       let n = part-length in
       let left : length bytes - (from + i) ≡ length part - i = omega arith in
       cond-moved from (ltb (length bytes - (from + i)) beginLength) (ltb (length part - i) beginLength) Broken Broken
-      (Whole (Begin (valueAt bytes (from + i))) (from + i + beginLength)) (Whole (Begin (valueAt part i)) (i + beginLength))
+      (Whole (Begin (beginValue bytes (from + i))) (from + i + beginLength)) (Whole (Begin (beginValue part i)) (i + beginLength))
       (ap (λ (k : ℕ). ltb k beginLength) left)
       refl
-      (ap (λ (v : ℕ). Whole (Begin v) (from + i + beginLength)) (value-same i) ∙ whole-moved (Begin (valueAt part i)) i beginLength)
+      (ap (λ (v : ℕ). Whole (Begin v) (from + i + beginLength)) (value-same i) ∙ whole-moved (Begin (beginValue part i)) i beginLength)
 
   coded-moved : (i : ℕ) → codedAt bytes (from + i) ≡ moved from (codedAt part i)
   coded-moved i =
@@ -88,7 +88,7 @@ module _ (bytes : List ℕ) (from : ℕ) (l : from ≤ length bytes) where
 
   goes-shifted : (k i : ℕ) → ((next : ℕ) → decodedWithin k bytes (from + next) ≡ shifted from (decodedWithin k part next)) → (c : Coded)
       → goOn (moved from c) (decodedWithin k bytes) (from + i) ≡ shifted from (goOn c (decodedWithin k part) i)
-  goes-shifted k i h (Whole a next) = ap (before a) (h next)
+  goes-shifted k i h (Whole a next) = ap (actionFirst a) (h next)
   goes-shifted k i h Broken = refl
   goes-shifted k i h End = refl
 

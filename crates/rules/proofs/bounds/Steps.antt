@@ -100,7 +100,7 @@ module _ (s : State) (k : BoundsOf s) where
   pub bounds-commit : BoundsOf (commit s)
   bounds-commit = bounds-pop
 
-  pub bounds-begin : s .depth < length (s .stack) → s .counts .begun ≢ mostCount → (v : ℕ) → BoundsOf (begin v s .ring)
+  pub bounds-begin : s .depth < length (s .stack) → s .counts .begun ≢ mostCount → (v : ℕ) → BoundsOf (begin v s .state)
   bounds-begin room more v =
       record {
         modeFits = k .modeFits;

@@ -44,14 +44,14 @@ module _ {s : State} {L : ℕ → ℕ} {pc pt : ℕ} (v : Control s L pc pt) (b 
       let below : i ≢ s .depth = λ q. subst (λ (ph : WriterPhase). Owns ph p) (ap (phaseAt stack') q ∙ new-at) o in
       (omega arith, subst (λ (ph : WriterPhase). Owns ph p) (old-at i (omega arith)) o)
 
-  flags-kept : FlagsIn s L pc → FlagsIn (begin b s .ring) L pc
+  flags-kept : FlagsIn s L pc → FlagsIn (begin b s .state) L pc
   flags-kept (headed h) = headed h
   flags-kept (headless o) =
       headless (
       headless-records o stack' (s .depth + 1) (omega (arith, o .below)) (old-at (o .a) (o .below))
       (λ i lo hi. each-record (Above (place (R s) L (N s - 1)) (place (R s) L (N s))) tt i hi (o .above i lo)))
 
-  owners-kept : OwnersIn (begin b s .ring)
+  owners-kept : OwnersIn (begin b s .state)
   owners-kept =
       record {
         small = v .owners .small;
@@ -64,7 +64,7 @@ module _ {s : State} {L : ℕ → ℕ} {pc pt : ℕ} (v : Control s L pc pt) (b 
             v .owners .one i j p (a .0) (b .0) (a .1) (b .1);
       }
 
-  pub begun-control : Control (begin b s .ring) L pc pt
+  pub begun-control : Control (begin b s .state) L pc pt
   begun-control =
       record {
         links = v .links;

@@ -10,7 +10,7 @@ use borrow.Author.Tests.{eqb-true, eq-eqb}
 use Rattle.rules.specs.Receipt.{receiptOf}
 use Rattle.rules.specs.Remember.{History}
 use Rattle.rules.specs.History.{Run}
-use Rattle.rules.specs.Demand.{HandedOut, Claim, GivenOf, AllGiven, CompleteClaim}
+use Rattle.rules.specs.Demand.{HandedOut, Claim, HandedOutOf, AllHandedOut, CompleteClaim}
 use Rattle.rules.specs.declared.state.WriterPhase.{WriterPhase}
 use Rattle.rules.specs.declared.state.WriterPhase.the-variants as phase
 use Rattle.rules.specs.declared.state.Writer.{Writer}
@@ -67,7 +67,7 @@ module _ (s : State) (h : History) (k : FatesOf s h) (o : Ordered (h .readings) 
     all-handed : (m : ℕ) → m < s .counts .taken → HandedOut run m
     all-handed = count-all (claim .handedCount) (omega (arith, count-le (claim .handedCount)))
 
-    owner-given : (writer : ℕ) → Owner (h .readings) (s .counts .taken) writer → GivenOf run writer
+    owner-given : (writer : ℕ) → Owner (h .readings) (s .counts .taken) writer → HandedOutOf run writer
     owner-given writer w =
         record {
           number = w .number;
@@ -77,13 +77,13 @@ module _ (s : State) (h : History) (k : FatesOf s h) (o : Ordered (h .readings) 
           given = all-handed (w .number) (w .below);
         }
 
-    all-given : AllGiven run
+    all-given : AllHandedOut run
     all-given writer known =
         ⊎-elim (owner-given writer) (λ f. absurd (⊎-elim (no-dropper writer) (no-early writer) f)) (k .fate writer known)
 
   -- ---- each reading begun was handed out: begun = handed
 
-  module _ (all : AllGiven run) where
+  module _ (all : AllHandedOut run) where
     owned : (writer : ℕ) → writer < h .begins → Owner (h .readings) (s .counts .taken) writer
     owned writer known =
         let g = all writer known in

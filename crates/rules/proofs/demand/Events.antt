@@ -4,14 +4,14 @@ use mathlib.Core.Path.{_≡_, ap, _∙_}
 use mathlib.Core.List.{List}
 use Prim.Native.Nat.{ℕ, _+_, _<_}
 use native.Mathlib.Omega.{arith}
-use Rattle.rules.specs.Remember.{Numbered, Given}
-use Rattle.rules.specs.Demand.{One, EventAt, GivenIn}
+use Rattle.rules.specs.Remember.{Numbered, ReadEvent}
+use Rattle.rules.specs.Demand.{One, EventAt, EventIn}
 use Rattle.rules.proofs.Lists.{by-lt}
 use Rattle.rules.proofs.invariant.Accounts.{valueOf, givenValue, Past}
 
 -- ---- what an Event gave
 
-module _ {events : List Given} {lost : List ℕ} {readings : List Numbered} {handed overwritten r0 position uR gap : ℕ}
+module _ {events : List ReadEvent} {lost : List ℕ} {readings : List Numbered} {handed overwritten r0 position uR gap : ℕ}
     (past : Past events lost readings handed overwritten r0 position uR gap) where
   pub given-low : {m k : ℕ} → EventAt events m k → m < r0 + position
   given-low {k = k} x = omega (arith, past .given k (x .below))
@@ -28,5 +28,5 @@ module _ {events : List Given} {lost : List ℕ} {readings : List Numbered} {han
       (λ lt. absurd (omega (arith, given-rising x y lt)))
       (λ le. by-lt k j (λ lt. absurd (omega (arith, given-rising y x lt))) (λ ge. omega arith))
 
-  pub handed-once : {m : ℕ} → GivenIn events m → One (EventAt events m)
+  pub handed-once : {m : ℕ} → EventIn events m → One (EventAt events m)
   handed-once x = record { it = x .nth; has = x .event; alone = λ k y. given-once y (x .event) }

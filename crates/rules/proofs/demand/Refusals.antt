@@ -6,7 +6,7 @@ use mathlib.Core.Logic.{_≢_}
 use mathlib.Core.Bool.{true, _&&_, _||_}
 use Prim.Native.Nat.{ℕ}
 use lib.Dec.{eqb, ltb}
-use Rattle.rules.specs.Limits.{mostDepth, mostCount, stop, header, update}
+use Rattle.rules.specs.Limits.{mostDepth, mostCount, stopMode, headerFlag, updateFlag}
 use Rattle.rules.specs.State.{wordAt, usedAt, top, State}
 use Rattle.rules.specs.Words.{pageIn, flagIn, samePage, readerOnCommit, links, findHeader}
 use Rattle.rules.specs.Shape.{inShape}
@@ -37,9 +37,9 @@ module _ (s : State) where
   full-unrefused n flag =
       by-cond MoveUnrefused (samePage (s .places .tail) (s .places .reader)) (λ e. refl) (λ e.
       by-cond MoveUnrefused (samePage n (s .places .commit)) (λ e. refl) (λ e.
-      by-cond MoveUnrefused (eqb flag header && readerOnCommit (s .places)) (λ e. refl) (λ e.
-      by-cond MoveUnrefused (eqb flag header && eqb (s .size .mode) stop) (λ e. refl) (λ e.
-      by-cond MoveUnrefused (eqb flag header || eqb flag update) (λ e. refl) (λ e. refl)))))
+      by-cond MoveUnrefused (eqb flag headerFlag && readerOnCommit (s .places)) (λ e. refl) (λ e.
+      by-cond MoveUnrefused (eqb flag headerFlag && eqb (s .size .mode) stopMode) (λ e. refl) (λ e.
+      by-cond MoveUnrefused (eqb flag headerFlag || eqb flag updateFlag) (λ e. refl) (λ e. refl)))))
 
   promote-unrefused : (found : Search) (n : PageNo) (next : WriterPhase) → MoveUnrefused (promoteBy found n next)
   promote-unrefused (found.At p h) n next = refl
@@ -51,10 +51,10 @@ module _ (s : State) where
       (λ e. refl)
       (λ e. full-unrefused (pageIn (wordAt (s .words) (s .places .tail))) (flagIn (wordAt (s .words) (s .places .tail))))
   phase-unrefused (phase.Mark t n) =
-      by-cond MoveUnrefused (links (s .words) t n header) (λ e. refl) (λ e.
-      by-cond MoveUnrefused (links (s .words) t n update) (λ e. refl) (λ e. refl))
+      by-cond MoveUnrefused (links (s .words) t n headerFlag) (λ e. refl) (λ e.
+      by-cond MoveUnrefused (links (s .words) t n updateFlag) (λ e. refl) (λ e. refl))
   phase-unrefused (phase.Promote t n own) = promote-unrefused (findHeader (s .words) (s .size .pages) (s .places .reader)) n (afterPromote t n own)
-  phase-unrefused (phase.Clear t n) = by-cond MoveUnrefused (links (s .words) t n update) (λ e. refl) (λ e. refl)
+  phase-unrefused (phase.Clear t n) = by-cond MoveUnrefused (links (s .words) t n updateFlag) (λ e. refl) (λ e. refl)
   phase-unrefused (phase.Push t n) = by-cond MoveUnrefused (samePage (s .places .tail) t) (λ e. refl) (λ e. refl)
   phase-unrefused (phase.Held p slot) = refl
   phase-unrefused phase.Filled = by-cond MoveUnrefused (eqb (s .depth) 1) (λ e. refl) (λ e. refl)
@@ -75,7 +75,7 @@ module _ (s : State) where
       by-cond FetchUnrefused (readerOnCommit (s .places)) (λ e. refl) (λ e.
       found-unrefused (findHeader (s .words) (s .size .pages) (s .places .reader))))
   reader-unrefused (reading.Found p h) = refl
-  reader-unrefused (reading.Ready p h) = by-cond FetchUnrefused (links (s .words) p h header) (λ e. refl) (λ e. refl)
+  reader-unrefused (reading.Ready p h) = by-cond FetchUnrefused (links (s .words) p h headerFlag) (λ e. refl) (λ e. refl)
 
   read-not-refused : fetched (planRead s) s .tells .refusal ≡ 0
   read-not-refused = reader-unrefused (s .reader .phase)
@@ -92,7 +92,7 @@ module _ (s : State) where
     refusals action.Read = rw fits read-not-refused
 
     -- a refused action gives the same ring back
-    same-ring : (a : Action) → listed s a ≢ 0 → act s a .ring ≡ s
+    same-ring : (a : Action) → listed s a ≢ 0 → act s a .state ≡ s
     same-ring (action.Begin v) =
         by-bool (eqb (s .depth) mostDepth)
         (λ d. rw (fits, d) (λ n. refl))

@@ -6,7 +6,7 @@ use Prim.Native.Nat.{ℕ, _+_, _≤_}
 use native.Mathlib.Omega.{arith}
 use borrow.Author.Tests.{lt-ltb, le-leb, ne-eqb}
 use lib.ListN.{getD}
-use Rattle.rules.specs.Limits.{leastPages, mostPages, leastSlots, mostSlots, mostDepth, mostCount, stop, bothFlags}
+use Rattle.rules.specs.Limits.{leastPages, mostPages, leastSlots, mostSlots, mostDepth, mostCount, stopMode, bothFlags}
 use Rattle.rules.specs.Shape.{sizeTests, sizeFits, placesFit, countsFit, pagesFit, heldTests, heldFits, writerFits, readerFits, recordFitsAt, stackFits, wordFitsAt, wordsFit, usedFitsAt, usedFit, numberFits, numbersFit, layoutTests, layoutFits, inShape}
 use Rattle.rules.specs.Remember.{History}
 use Rattle.rules.specs.declared.state.PageNo.{PageNo}
@@ -37,7 +37,7 @@ module _ {s : State} {h : History} {L : ℕ → ℕ} {pc pt a r0 gap : ℕ} (v :
         le-leb leastPages (N s) (v .links .cycle .two),
         (
           le-leb (N s) mostPages (b .contents .sizes .pages),
-          (le-leb leastSlots (S s) (b .contents .sizes .some), (le-leb (S s) mostSlots (b .contents .sizes .slots), (le-leb (s .size .mode) stop (k .modeFits), tt))),
+          (le-leb leastSlots (S s) (b .contents .sizes .some), (le-leb (S s) mostSlots (b .contents .sizes .slots), (le-leb (s .size .mode) stopMode (k .modeFits), tt))),
         ),
       )
 

@@ -5,7 +5,7 @@ use mathlib.Core.Bool.{true}
 use Rattle.rules.specs.Shape.{inShape}
 use Rattle.rules.specs.Receipt.{receiptOf, receiptRule}
 use Rattle.rules.specs.History.{Run}
-use Rattle.rules.specs.Demand.{Claim, CompleteClaim, Whole, Demand3}
+use Rattle.rules.specs.Demand.{Claim, CompleteClaim, RunClaim, Demand3}
 use Rattle.rules.specs.declared.state.Receipt.{Receipt}
 use Rattle.rules.specs.State.{State}
 use Rattle.rules.proofs.demand.Claim.{demand}
@@ -29,7 +29,7 @@ module _ {r : Run} (g : Invariant (r .now) (r .past)) where
   complete-claim : CompleteClaim (receiptOf (r .now .counts)) r
   complete-claim = complete (r .now) (r .past) (g .fates) (g .accounts .recorded .ordered) (g .accounts .balance) claim
 
-  whole-claim : Whole r
+  whole-claim : RunClaim r
   whole-claim =
       let own = sym (receipt-is (r .now) fits) in
       record {

@@ -9,9 +9,9 @@ use lib.ListN.{replicate}
 use Rattle.rules.specs.Answers.{Outcome, gives}
 use Rattle.rules.specs.Shape.{inShape}
 use Rattle.rules.specs.Read.{readRule}
-use Rattle.rules.specs.Replay.{ringAfter, answersOf, Reached}
+use Rattle.rules.specs.Replay.{stateAfter, answersOf, Reached}
 use Rattle.rules.specs.Limits.{mostInRow}
-use Rattle.rules.specs.Drain.{Kind, event, ending, quiet, kindOf, Drain, noMore, byKind, row, drained, drainRule, eventsAmong, lastOf, Singly}
+use Rattle.rules.specs.Drain.{Kind, event, ending, quiet, kindOf, DrainOutcome, drainEnds, byKind, readsInRow, drainReads, drainRule, eventsAmong, lastOf, Singly}
 use Rattle.rules.specs.declared.state.Action.{Action}
 use Rattle.rules.specs.declared.state.Action.the-variants.{Read}
 use Rattle.rules.specs.declared.state.Refusal.the-variants.{Shape}
@@ -26,72 +26,72 @@ abbrev reads : ℕ → List Action
 reads k = replicate k Read
 
 -- so many Reads from a ring, after a last answer, leave this
-record From (r : State) (last : Last) (d : Drain) : Type 0 where
+record From (r : State) (last : Last) (d : DrainOutcome) : Type 0 where
   pub count : ℕ
-  pub ring : d .ring ≡ ringAfter r (reads count)
+  pub state : d .state ≡ stateAfter r (reads count)
   pub events : d .events ≡ eventsAmong (answersOf r (reads count))
   pub last-is : d .last ≡ lastOf last (answersOf r (reads count))
 
-none-made : (r : State) (last : Last) → From r last (noMore r last)
-none-made r last = record { count = 0; ring = refl; events = refl; last-is = refl }
+none-made : (r : State) (last : Last) → From r last (drainEnds r last)
+none-made r last = record { count = 0; state = refl; events = refl; last-is = refl }
 
 -- one Read, by the kind of its answer, and what comes after it
 module _ (r : State) (last : Last) where
   abbrev then : State
-  then = readRule r .ring
+  then = readRule r .state
 
   abbrev told : Last
   told = Given (readRule r .answer)
 
   one-made :
-      (k : Kind) → kindOf (readRule r .answer) ≡ k → (later on : Drain) → From then told later → From then told on →
-      From r last (byKind k later (noMore then told) on)
+      (k : Kind) → kindOf (readRule r .answer) ≡ k → (later on : DrainOutcome) → From then told later → From then told on →
+      From r last (byKind k later (drainEnds then told) on)
   one-made (event e) q later on a b =
       record {
         count = suc (a .count);
-        ring = a .ring;
+        state = a .state;
         events = rw q (ap (λ (es : List ℕ). e ∷ es) (a .events));
         last-is = a .last-is;
       }
-  one-made ending q later on a b = record { count = 1; ring = refl; events = rw q; last-is = refl }
-  one-made quiet q later on a b = record { count = suc (b .count); ring = b .ring; events = rw q (b .events); last-is = b .last-is }
+  one-made ending q later on a b = record { count = 1; state = refl; events = rw q; last-is = refl }
+  one-made quiet q later on a b = record { count = suc (b .count); state = b .state; events = rw q (b .events); last-is = b .last-is }
 
-row-made : (later : State → Last → Drain) → ((r : State) (last : Last) → From r last (later r last)) → (left : ℕ) (r : State) (last : Last) → From r last (row later left r last)
+row-made : (later : State → Last → DrainOutcome) → ((r : State) (last : Last) → From r last (later r last)) → (left : ℕ) (r : State) (last : Last) → From r last (readsInRow later left r last)
 row-made later made zero r last = none-made r last
 row-made later made (suc left) r last =
-    one-made r last (kindOf (readRule r .answer)) refl (later (then r last) (told r last)) (row later left (then r last) (told r last))
+    one-made r last (kindOf (readRule r .answer)) refl (later (then r last) (told r last)) (readsInRow later left (then r last) (told r last))
     (made (then r last) (told r last))
     (row-made later made left (then r last) (told r last))
 
-drained-made : (most room : ℕ) (r : State) (last : Last) → From r last (drained most room r last)
+drained-made : (most space : ℕ) (r : State) (last : Last) → From r last (drainReads most space r last)
 drained-made most zero r last = none-made r last
-drained-made most (suc room) r last = row-made (drained most room) (drained-made most room) most r last
+drained-made most (suc space) r last = row-made (drainReads most space) (drained-made most space) most r last
 
 -- out of shape it is the one Read that is refused
 refused : (r : State) → inShape r ≡ false → gives (answer.Refused Shape) r ≡ readRule r
 refused r e = rw e
 
-refused-made : (r : State) → inShape r ≡ false → From r None (noMore r (Given (answer.Refused Shape)))
+refused-made : (r : State) → inShape r ≡ false → From r None (drainEnds r (Given (answer.Refused Shape)))
 refused-made r e =
     record {
       count = 1;
-      ring = ap (λ (o : Outcome). o .ring) (refused r e);
+      state = ap (λ (o : Outcome). o .state) (refused r e);
       events = ap (λ (o : Outcome). eventsAmong (o .answer ∷ [])) (refused r e);
       last-is = ap (λ (o : Outcome). Given (o .answer)) (refused r e);
     }
 
-rule-made : (r : State) (room : ℕ) → From r None (drainRule r room)
-rule-made r room =
+rule-made : (r : State) (space : ℕ) → From r None (drainRule r space)
+rule-made r space =
     by-bool (inShape r)
-    (λ e. rw e (drained-made mostInRow room r None))
+    (λ e. rw e (drained-made mostInRow space r None))
     (λ e. rw e (refused-made r e))
 
-pub drain-singly : (r : State) (room : ℕ) → Singly r (drainRule r room)
-drain-singly r room =
-    let m = rule-made r room in
-    record { reads = m .count; ring = m .ring; events = m .events; last = m .last-is }
+pub drain-singly : (r : State) (space : ℕ) → Singly r (drainRule r space)
+drain-singly r space =
+    let m = rule-made r space in
+    record { reads = m .count; state = m .state; events = m .events; last = m .last-is }
 
-pub drain-reached : (r : State) (room : ℕ) → Reached r → Reached (drainRule r room .ring)
-drain-reached r room h =
-    let m = rule-made r room in
-    rw (m .ring) (reached-more r h (reads (m .count)))
+pub drain-reached : (r : State) (space : ℕ) → Reached r → Reached (drainRule r space .state)
+drain-reached r space h =
+    let m = rule-made r space in
+    rw (m .state) (reached-more r h (reads (m .count)))

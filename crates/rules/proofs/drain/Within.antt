@@ -11,14 +11,14 @@ use borrow.Author.Tests.{ltb-false, eqb-true, eqb-false, eq-eqb}
 use lib.Dec.{ltb}
 use lib.ListN.{getD}
 use lib.Seq.{getD-set-other}
-use Rattle.rules.specs.Limits.{header, mostInRow}
+use Rattle.rules.specs.Limits.{headerFlag, mostInRow}
 use Rattle.rules.specs.State.{page, withReaderPhase, State}
 use Rattle.rules.specs.Answers.{Outcome}
 use Rattle.rules.specs.Words.{readerOnCommit, links, findHeader}
 use Rattle.rules.specs.Shape.{inShape}
 use Rattle.rules.specs.Read.{readLimit, findBy, planReader, prepare, swap, fetched, readRule}
 use Rattle.rules.specs.Replay.{Reached}
-use Rattle.rules.specs.Drain.{Drain, drained, Brought, anEvent, anEmpty, aBusy, enough, Brings}
+use Rattle.rules.specs.Drain.{DrainOutcome, drainReads, Brought, anEvent, anEmpty, aBusy, enough, Brings}
 use Rattle.rules.specs.declared.state.ReaderPhase.{ReaderPhase}
 use Rattle.rules.specs.declared.state.ReaderPhase.the-variants as reading
 use Rattle.rules.specs.declared.state.Last.{Last}
@@ -48,10 +48,10 @@ module _ (s : State) (g : RingOk s) where
 
   -- what is to be shown of the rule that applies
   abbrev After : ℕ → Fetch → Type 0
-  After k f = RingOk (fetched f s .ring) → Soon k (fetched f s)
+  After k f = RingOk (fetched f s .state) → Soon k (fetched f s)
 
   read-soon : {k : ℕ} (ph : ReaderPhase) → s .reader .phase ≡ ph → After k (by-phase ph) → Soon k (readRule s)
-  read-soon {k} ph q after = subst (λ (o : Outcome). RingOk (o .ring) → Soon k o) (sym (read-is ph q)) after (ok-read s g)
+  read-soon {k} ph q after = subst (λ (o : Outcome). RingOk (o .state) → Soon k o) (sym (read-is ph q)) after (ok-read s g)
 
   -- answers that are brought
   event-after : {k : ℕ} → After k fetch.Event
@@ -129,7 +129,7 @@ module _ (s : State) (g : RingOk s) where
 -- READY: the swap may miss, and the reader is idle then
 ready-soon : (s : State) → RingOk s → (k p h : ℕ) → s .reader .phase ≡ Ready p h → Soon (suc (suc (suc (suc k)))) (readRule s)
 ready-soon s g k p h q =
-    by-bool (links (s .words) (page p) (page h) header)
+    by-bool (links (s .words) (page p) (page h) headerFlag)
     (λ t. swap-soon s g p h q (eqb-true (getD (s .words) p 0) (4 * h + 1) t))
     (λ t. read-soon s g (Ready p h) q (rw t (λ z. next refl (idle-soon (withReaderPhase reading.Idle s) z k refl))))
 
@@ -149,26 +149,26 @@ within-six s g = go (s .reader .phase) refl
 -- ---- drains
 
 module _ (most : ℕ) (fits : enough ≤ most) where
-  -- the last answer; where there is no room, it is the one before
-  drained-brings : (room : ℕ) (s : State) → RingOk s → (last : Last) → (room ≡ 0 → Brought last) → Brought (drained most room s last .last)
+  -- the last answer; where there is no space, it is the one before
+  drained-brings : (space : ℕ) (s : State) → RingOk s → (last : Last) → (space ≡ 0 → Brought last) → Brought (drainReads most space s last .last)
   drained-brings zero s g last b = b refl
-  drained-brings (suc room) s g last b =
-      row-brings (drained most room) (λ s g last b. drained-brings room s g last (λ q. b)) 5 s g (within-six s g) most fits last
+  drained-brings (suc space) s g last b =
+      row-brings (drainReads most space) (λ s g last b. drained-brings space s g last (λ q. b)) 5 s g (within-six s g) most fits last
 
   -- the same as with the limit of eight
-  drained-same : (room : ℕ) (s : State) → RingOk s → (last : Last) → drained most room s last ≡ drained mostInRow room s last
+  drained-same : (space : ℕ) (s : State) → RingOk s → (last : Last) → drainReads most space s last ≡ drainReads mostInRow space s last
   drained-same zero s g last = refl
-  drained-same (suc room) s g last =
-      row-same (drained most room) (drained mostInRow room) (drained-same room) 5 s g (within-six s g) most mostInRow fits (omega arith) last
+  drained-same (suc space) s g last =
+      row-same (drainReads most space) (drainReads mostInRow space) (drained-same space) 5 s g (within-six s g) most mostInRow fits (omega arith) last
 
 pub reached-brings : (r : State) → Reached r → Brings r
 reached-brings r h =
     let g = reached-ok r h in
     record {
       within = drained-brings enough (omega arith) 1 r g None (λ q. absurd (omega arith));
-      ends = λ room.
-          by-cond (λ (d : Drain). Brought (d .last)) (inShape r)
-          (λ fits. drained-brings mostInRow (omega arith) (suc room) r g None (λ q. absurd (omega arith)))
+      ends = λ space.
+          by-cond (λ (d : DrainOutcome). Brought (d .last)) (inShape r)
+          (λ fits. drained-brings mostInRow (omega arith) (suc space) r g None (λ q. absurd (omega arith)))
           (λ fits. absurd (true≢false (sym (ok-shape r g) ∙ fits)));
-      sameAbove = λ most room fits. drained-same most fits room r g None;
+      sameAbove = λ most space fits. drained-same most fits space r g None;
     }

@@ -10,8 +10,8 @@ use lib.Dec.{ltb}
 use lib.ListN.{length, getD}
 use Rattle.rules.specs.Limits.{mostPages, mostSlots, slotRoom, mostDepth}
 use Rattle.rules.specs.State.{page, usedAt, numberAt, State}
-use Rattle.rules.specs.Remember.{BegunWriter, Numbered, Given, Overwriting, Marker, By, History, unbegun}
-use Rattle.rules.specs.Demand.{All, unnumbered, ungiven, GivenIn, RightlyTaken}
+use Rattle.rules.specs.Remember.{BegunWriter, Numbered, ReadEvent, Overwriting, Marker, By, History, unbegun}
+use Rattle.rules.specs.Demand.{All, unnumbered, noEvent, EventIn, RightlyTaken}
 use Rattle.rules.specs.declared.state.PageNo.{PageNo}
 use Rattle.rules.specs.declared.state.WriterPhase.{WriterPhase}
 use Rattle.rules.specs.declared.state.WriterPhase.the-variants as phase
@@ -135,14 +135,14 @@ pub record Lost (lost : List ℕ) (m : ℕ) : Type 0 where
   pub below : nth < length lost
   pub is : getD lost nth 0 ≡ m
 
-abbrev pub givenNumber : List Given → ℕ → ℕ
-givenNumber events k = getD events k ungiven .number
+abbrev pub givenNumber : List ReadEvent → ℕ → ℕ
+givenNumber events k = getD events k noEvent .number
 
-abbrev pub givenValue : List Given → ℕ → ℕ
-givenValue events k = getD events k ungiven .value
+abbrev pub givenValue : List ReadEvent → ℕ → ℕ
+givenValue events k = getD events k noEvent .value
 
 -- Each number below r0 + position was handed out or lost, not both; those of the gap were lost; no other number was either.
-pub record Past (events : List Given) (lost : List ℕ) (readings : List Numbered) (handed overwritten r0 position uR gap : ℕ) : Type 0 where
+pub record Past (events : List ReadEvent) (lost : List ℕ) (readings : List Numbered) (handed overwritten r0 position uR gap : ℕ) : Type 0 where
   -- the Events: how many, up to where, in which order, with which values
   pub handedIs : length events ≡ handed
   pub given : (k : ℕ) → k < length events → givenNumber events k < r0 + position
@@ -154,9 +154,9 @@ pub record Past (events : List Given) (lost : List ℕ) (readings : List Numbere
   pub lostApart : (k : ℕ) → k < length lost → getD lost k 0 < r0 + position ⊎ r0 + uR ≤ getD lost k 0
   pub lostRising : (j k : ℕ) → j < k → k < length lost → getD lost j 0 < getD lost k 0
   -- and which numbers are which
-  pub covered : (m : ℕ) → m < r0 + position → GivenIn events m ⊎ Lost lost m
+  pub covered : (m : ℕ) → m < r0 + position → EventIn events m ⊎ Lost lost m
   pub gone : (m : ℕ) → r0 + uR ≤ m → m < r0 + uR + gap → Lost lost m
-  pub apart : (m : ℕ) → GivenIn events m → Lost lost m → ⊥
+  pub apart : (m : ℕ) → EventIn events m → Lost lost m → ⊥
 
 -- the i-th writer at work
 abbrev pub workerAt : List BegunWriter → ℕ → BegunWriter
@@ -178,7 +178,7 @@ pub record Contents (used inNumbers inValues : List ℕ) (N S R : ℕ) (P : ℕ 
   pub numbers : Numbers inNumbers used N S R P a r0 taken
 
 -- what the history says
-pub record Recorded (events : List Given) (overwritings : List Overwriting) (readings : List Numbered) (taken committed handed overwritten r0 position uR gap : ℕ) : Type 0 where
+pub record Recorded (events : List ReadEvent) (overwritings : List Overwriting) (readings : List Numbered) (taken committed handed overwritten r0 position uR gap : ℕ) : Type 0 where
   pub past : Past events (lostOf overwritings) readings handed overwritten r0 position uR gap
   pub ordered : Ordered readings taken committed
   pub rightly : All RightlyTaken overwritings

@@ -3,7 +3,7 @@
 use mathlib.Core.List.{List}
 use Prim.Native.Nat.{ℕ, _≤_, _<_}
 use lib.ListN.{getD}
-use Rattle.rules.specs.Limits.{mostCount, stop}
+use Rattle.rules.specs.Limits.{mostCount, stopMode}
 use Rattle.rules.specs.declared.state.WriterPhase.{WriterPhase}
 use Rattle.rules.specs.declared.state.WriterPhase.the-variants as phase
 use Rattle.rules.specs.declared.state.Writer.{Writer}
@@ -21,7 +21,7 @@ AimFits N (phase.Held p slot) = Unit {0}
 AimFits N phase.Filled = Unit {0}
 
 pub record Bounds (N mode begun taken R : ℕ) (words numbers : List ℕ) (stack : List Writer) (depth : ℕ) : Type 0 where
-  pub modeFits : mode ≤ stop
+  pub modeFits : mode ≤ stopMode
   pub begunFits : begun ≤ mostCount
   pub numbersFit : (k : ℕ) → getD numbers k 0 ≤ taken
   pub readerFits : nextOf words R ≤ N

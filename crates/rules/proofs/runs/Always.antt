@@ -43,7 +43,7 @@ accepted-fits pages slots mode e =
         let z : _≡_ {A = ℕ} 0 1 = cc in
         omega arith
 
-pub fresh-is : (pages slots mode : ℕ) → sizeFits (sizeOf pages slots mode) ≡ true → freshRule pages slots mode .ring ≡ freshRing (sizeOf pages slots mode)
+pub fresh-is : (pages slots mode : ℕ) → sizeFits (sizeOf pages slots mode) ≡ true → freshRule pages slots mode .state ≡ freshRing (sizeOf pages slots mode)
 fresh-is pages slots mode e = rw e refl
 
 pub always : (pages slots mode : ℕ) → freshRule pages slots mode .answer ≡ answer.Accepted → (actions : List Action)
@@ -51,4 +51,4 @@ pub always : (pages slots mode : ℕ) → freshRule pages slots mode .answer ≡
 always pages slots mode accepted actions =
     let fits = accepted-fits pages slots mode accepted in
     let start = subst (λ (s : State). Invariant s nothing) (sym (fresh-is pages slots mode fits)) (fresh-invariant (sizeOf pages slots mode) fits) in
-    after-invariant actions (record { now = freshRule pages slots mode .ring; past = nothing }) start
+    after-invariant actions (record { now = freshRule pages slots mode .state; past = nothing }) start

@@ -9,7 +9,7 @@ use native.Mathlib.Omega.{arith}
 use native.Mathlib.Nat.{mod-lt, mod-eq-of-lt, mod-self, suc-mod, add-mod-right, zero-mod}
 use borrow.Author.Tests.{leb-true, lt-ltb, le-ltb, eq-eqb, ne-eqb}
 use lib.ListN.{length, getD, replicate, length-replicate}
-use Rattle.rules.specs.Limits.{leastPages, mostPages, leastSlots, mostSlots, pageRoom, slotRoom, stop}
+use Rattle.rules.specs.Limits.{leastPages, mostPages, leastSlots, mostSlots, pageRoom, slotRoom, stopMode}
 use Rattle.rules.specs.Shape.{sizeTests, sizeFits}
 use Rattle.rules.specs.SetUp.{freshNext, freshFlag, freshWord, freshWords, freshRing}
 use Rattle.rules.specs.History.{nothing}
@@ -243,7 +243,7 @@ module _ (size : Size) (fits : sizeFits size ≡ true) where
   fresh-bounds : BoundsOf s
   fresh-bounds =
       record {
-        modeFits = leb-true (size .mode) stop (each (sizeTests size) fits .1 .1 .1 .1 .0);
+        modeFits = leb-true (size .mode) stopMode (each (sizeTests size) fits .1 .1 .1 .1 .0);
         begunFits = omega arith;
         numbersFit = λ i. omega (arith, zeros slotRoom i);
         readerFits = omega (arith, word-next n n2 n16 n (omega arith), freshNext-pages n n);

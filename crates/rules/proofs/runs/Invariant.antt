@@ -47,4 +47,4 @@ holds-same g v b f k = holds (g .L) (g .pc) (g .pt) (g .a) (g .r0) (g .gap) v b 
 
 -- the invariant after an outcome on the ring s with the history h; v is the value in the action
 abbrev pub Next : ℕ → State → History → Outcome → Type 0
-Next v s h o = Invariant (o .ring) (recall v s (o .answer) h)
+Next v s h o = Invariant (o .state) (recall v s (o .answer) h)

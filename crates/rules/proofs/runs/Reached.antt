@@ -9,7 +9,7 @@ use Rattle.rules.specs.SetUp.{freshRing}
 use Rattle.rules.specs.Act.{act}
 use Rattle.rules.specs.Remember.{History}
 use Rattle.rules.specs.History.{Run, nothing, next, after}
-use Rattle.rules.specs.Replay.{ringAfter, Reached}
+use Rattle.rules.specs.Replay.{stateAfter, Reached}
 use Rattle.rules.specs.declared.state.Action.{Action}
 use Rattle.rules.specs.State.{State}
 use Rattle.rules.proofs.demand.Shape.{invariant-inShape}
@@ -18,21 +18,21 @@ use Rattle.rules.proofs.runs.Fresh.{fresh-invariant}
 use Rattle.rules.proofs.runs.Invariant.{Invariant}
 
 -- the ring of the run that demand 3 speaks of
-pub after-now : (r : Run) (actions : List Action) → after r actions .now ≡ ringAfter (r .now) actions
+pub after-now : (r : Run) (actions : List Action) → after r actions .now ≡ stateAfter (r .now) actions
 after-now r [] = refl
 after-now r (a ∷ rest) = after-now (next r a) rest
 
-after-append : (r : State) (past done : List Action) → ringAfter r (past ++ done) ≡ ringAfter (ringAfter r past) done
+after-append : (r : State) (past done : List Action) → stateAfter r (past ++ done) ≡ stateAfter (stateAfter r past) done
 after-append r [] done = refl
-after-append r (a ∷ past) done = after-append (act r a .ring) past done
+after-append r (a ∷ past) done = after-append (act r a .state) past done
 
-pub reached-more : (r : State) → Reached r → (done : List Action) → Reached (ringAfter r done)
+pub reached-more : (r : State) → Reached r → (done : List Action) → Reached (stateAfter r done)
 reached-more r h done =
     record {
       size = h .size;
       fits = h .fits;
       past = h .past ++ done;
-      reached = ap (λ (q : State). ringAfter q done) (h .reached) ∙ sym (after-append (freshRing (h .size)) (h .past) done);
+      reached = ap (λ (q : State). stateAfter q done) (h .reached) ∙ sym (after-append (freshRing (h .size)) (h .past) done);
     }
 
 -- a ring with the invariant
@@ -49,5 +49,5 @@ reached-ok s h =
     let now : RingOk (after start (h .past) .now) = record { history = _; all = after-invariant (h .past) start (fresh-invariant (h .size) (h .fits)) } in
     rw (h .reached) (subst RingOk (after-now start (h .past)) now)
 
-pub reached-shape : (r : State) → Reached r → (done : List Action) → inShape (ringAfter r done) ≡ true
-reached-shape r h done = ok-shape (ringAfter r done) (reached-ok (ringAfter r done) (reached-more r h done))
+pub reached-shape : (r : State) → Reached r → (done : List Action) → inShape (stateAfter r done) ≡ true
+reached-shape r h done = ok-shape (stateAfter r done) (reached-ok (stateAfter r done) (reached-more r h done))

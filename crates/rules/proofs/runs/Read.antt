@@ -7,7 +7,7 @@ use native.Mathlib.Omega.{arith}
 use borrow.Author.Tests.{ltb-true, ltb-false, eqb-true, eqb-false}
 use lib.Dec.{ltb}
 use lib.ListN.{getD}
-use Rattle.rules.specs.Limits.{header}
+use Rattle.rules.specs.Limits.{headerFlag}
 use Rattle.rules.specs.State.{page, State}
 use Rattle.rules.specs.Words.{readerOnCommit, links, findHeader}
 use Rattle.rules.specs.Shape.{inShape}
@@ -106,7 +106,7 @@ module _ (x : ℕ) (s : State) (h : History) (g : Invariant s h) where
 
   ready-next : (p h0 : ℕ) → s .reader .phase ≡ Ready p h0 → After (planReady (page p) (page h0) (s .words))
   ready-next p h0 q =
-      by-cond After (links (s .words) (page p) (page h0) header)
+      by-cond After (links (s .words) (page p) (page h0) headerFlag)
       (λ k.
       let hw = eqb-true (getD (s .words) p 0) (4 * h0 + 1) k in
       holds (swapped (g .L) (R s)) (g .pc - 1) (g .pt - 1) (suc (g .a)) (S s * g .a) 0

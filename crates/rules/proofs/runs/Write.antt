@@ -7,7 +7,7 @@ use native.Mathlib.Omega.{arith}
 use borrow.Author.Tests.{ltb-true, ltb-false, eqb-true, eqb-false, eq-eqb}
 use lib.Dec.{eqb, ltb}
 use lib.ListN.{getD, set}
-use Rattle.rules.specs.Limits.{stop, header, update}
+use Rattle.rules.specs.Limits.{stopMode, headerFlag, updateFlag}
 use Rattle.rules.specs.State.{page, noWriter, wordAt, usedAt, top, setPhase, State}
 use Rattle.rules.specs.Words.{pageIn, flagIn, samePage, readerOnCommit, links, findHeader}
 use Rattle.rules.specs.Shape.{inShape}
@@ -135,19 +135,19 @@ module _ (x : ℕ) {s : State} {h : History} (g : Invariant s h) (deep : 1 ≤ s
     mark-look = rephased (Mark (T s) (n .0)) (ap early want) refl (λ p o. o) (words-fit v (g .bounds) (T s) (tail-le v))
 
     -- neither HEADER nor UPDATE
-    flag-normal : eqb flag header || eqb flag update ≡ false → flagOf (s .words) (T s) ≡ 0
+    flag-normal : eqb flag headerFlag || eqb flag updateFlag ≡ false → flagOf (s .words) (T s) ≡ 0
     flag-normal neither =
-        let no = or-false (eqb flag header) (eqb flag update) neither in
-        omega (arith, v .owners .small (T s) (tail-le v), eqb-false flag header (no .0), eqb-false flag update (no .1))
+        let no = or-false (eqb flag headerFlag) (eqb flag updateFlag) neither in
+        omega (arith, v .owners .small (T s) (tail-le v), eqb-false flag headerFlag (no .0), eqb-false flag updateFlag (no .1))
 
     full-next : S s ≤ usedOf s (T s) → After (planFull (s .size) (s .places) n flag)
     full-next full =
         by-cond After (samePage (s .places .tail) (s .places .reader)) (λ a. push-look (look-reader v deep want full (eqb-true _ _ a))) (λ not-a.
         by-cond After (samePage n (s .places .commit)) (λ b. drop-next) (λ not-b.
-        by-cond After (eqb flag header && readerOnCommit (s .places)) (λ c. drop-next) (λ not-c.
-        by-cond After (eqb flag header && eqb (s .size .mode) stop) (λ d. drop-next) (λ not-d.
-        by-cond After (eqb flag header || eqb flag update)
-        (λ e. mark-look (look-mark v deep want full (eqb-false _ _ not-b) (λ q. eqb-false _ _ (and-false _ _ not-c (eq-eqb flag header q)))))
+        by-cond After (eqb flag headerFlag && readerOnCommit (s .places)) (λ c. drop-next) (λ not-c.
+        by-cond After (eqb flag headerFlag && eqb (s .size .mode) stopMode) (λ d. drop-next) (λ not-d.
+        by-cond After (eqb flag headerFlag || eqb flag updateFlag)
+        (λ e. mark-look (look-mark v deep want full (eqb-false _ _ not-b) (λ q. eqb-false _ _ (and-false _ _ not-c (eq-eqb flag headerFlag q)))))
         (λ not-e. push-look (look-push v deep want full (flag-normal not-e)))))))
 
   -- ---- MARK
@@ -168,10 +168,10 @@ module _ (x : ℕ) {s : State} {h : History} (g : Invariant s h) (deep : 1 ≤ s
 
     mark-next : After (planMark (page t) (page n) (s .words))
     mark-next =
-        by-cond After (links (s .words) (page t) (page n) header)
+        by-cond After (links (s .words) (page t) (page n) headerFlag)
         (λ k. marked-next (eqb-true _ _ k))
         (λ k.
-        by-cond After (links (s .words) (page t) (page n) update)
+        by-cond After (links (s .words) (page t) (page n) updateFlag)
         (λ l. rephased (Promote t n false) (ap early phase-is) refl (λ p o. o) tt (shared-control v deep t n phase-is (eqb-true _ _ l)))
         (λ l. rephased phase.Want (ap early phase-is) refl (λ p o. o) tt (retry-control v deep t n phase-is)))
 
@@ -223,7 +223,7 @@ module _ (x : ℕ) {s : State} {h : History} (g : Invariant s h) (deep : 1 ≤ s
         (bounds-flag (setPhase (Push t n) s) (phase-bounds (Push t n) tt) t n 0 (omega arith) (omega (arith, clear-word)))
 
     clear-next : After (planClear (page t) (page n) (s .words))
-    clear-next = by-cond After (links (s .words) (page t) (page n) update) (λ k. cleared-next) (λ k. absurd (eqb-false _ _ k clear-word))
+    clear-next = by-cond After (links (s .words) (page t) (page n) updateFlag) (λ k. cleared-next) (λ k. absurd (eqb-false _ _ k clear-word))
 
   -- ---- PUSH
 

@@ -61,7 +61,7 @@ module _ (size : Size) (fits : sizeFits size ≡ true) where
   fresh-complete = rw fresh-inShape
 
 -- and so of the ring of any set-up, the plain ring of a refused one too
-pub setUp-complete : (pages slots mode : ℕ) → receiptRule (freshRule pages slots mode .ring) ≡ freshReceipt
+pub setUp-complete : (pages slots mode : ℕ) → receiptRule (freshRule pages slots mode .state) ≡ freshReceipt
 setUp-complete pages slots mode =
     by-bool (sizeFits (sizeOf pages slots mode))
     (λ e. rw e (fresh-complete (sizeOf pages slots mode) e))

@@ -10,7 +10,7 @@ use mir.Syntax.{w32}
 use mir.Val.{Fits}
 use lib.Dec.{leb}
 use lib.ListN.{getD}
-use Rattle.rules.specs.Limits.{leastPages, mostPages, leastSlots, mostSlots, mostDepth, mostCount, stop}
+use Rattle.rules.specs.Limits.{leastPages, mostPages, leastSlots, mostSlots, mostDepth, mostCount, stopMode}
 use Rattle.rules.specs.Lists.{allBelow}
 use Rattle.rules.specs.State.{page, usedAt, State}
 use Rattle.rules.specs.Shape.{sizeTests, placeTests, placesFit, smallTests, countsSmall, agreeTests, countsAgree, pageTests, pagesFit, heldTests, heldFits, readerFits, recordFitsAt, wordFitsAt, usedFitsAt, numberFits, numbersFit, countsFit, layoutTests, layoutFits, ringFits, inShape}
@@ -25,7 +25,7 @@ pub record InShape (r : State) : Type 0 where
   pub pages-most : r .size .pages ≤ mostPages
   pub slots-least : leastSlots ≤ r .size .slots
   pub slots-most : r .size .slots ≤ mostSlots
-  pub mode : r .size .mode ≤ stop
+  pub mode : r .size .mode ≤ stopMode
   pub reader : r .places .reader .0 ≤ r .size .pages
   pub tail : r .places .tail .0 ≤ r .size .pages
   pub commit : r .places .commit .0 ≤ r .size .pages

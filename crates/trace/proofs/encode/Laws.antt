@@ -1,4 +1,4 @@
--- What the proofs of the encoder share: where a call is not refused there is room, and a run of stores is bytes put at a place.
+-- What the proofs of the encoder share: where a call is not refused there is capacity, and a run of stores is bytes put at a place.
 -- Assumes nothing.
 use mathlib.Core.Path.{_≡_, refl}
 use mathlib.Core.Bool.{true, not}
@@ -9,7 +9,7 @@ use borrow.Author.Tests.{leb-true, ltb-false, not-false}
 use lib.Dec.{ltb}
 use lib.ListN.{length, set}
 use lib.Seq.{sets-eq}
-use Rattle.rules.specs.Limits.{mostPages, mostSlots, stop}
+use Rattle.rules.specs.Limits.{mostPages, mostSlots, stopMode}
 use Rattle.rules.specs.State.{sizeOf}
 use Rattle.rules.specs.Shape.{sizeTests, sizeFits}
 use Rattle.rules.proofs.Lists.{by-cond, each}
@@ -23,7 +23,7 @@ use Rattle.trace.specs.declared.parts.Put.the-variants.{At, Refused}
 pub record Small (n s m : ℕ) : Type 0 where
   pub pages : n ≤ mostPages
   pub slots : s ≤ mostSlots
-  pub mode : m ≤ stop
+  pub mode : m ≤ stopMode
 
 pub small : (pages slots mode : ℕ) → sizeFits (sizeOf pages slots mode) ≡ true → Small pages slots mode
 small pages slots mode h =
@@ -31,7 +31,7 @@ small pages slots mode h =
     record {
       pages = leb-true pages mostPages (t .1 .0);
       slots = leb-true slots mostSlots (t .1 .1 .1 .0);
-      mode = leb-true mode stop (t .1 .1 .1 .1 .0);
+      mode = leb-true mode stopMode (t .1 .1 .1 .1 .0);
     }
 
 -- ---- what is so where a call gives a place
@@ -41,33 +41,33 @@ abbrev Given : (ℕ → Type 0) → Put → Type 0
 Given P (At next) = P next
 Given P (Refused why) = Unit {0}
 
-pub record Placed (room at count next : ℕ) : Type 0 where
+pub record Placed (capacity at count next : ℕ) : Type 0 where
   pub after : next ≡ at + count
   pub short : next ≤ mostLength
-  pub fits : next ≤ room
+  pub fits : next ≤ capacity
 
-place-given : (room at count : ℕ) → Given (Placed room at count) (placeFor room at count)
-place-given room at count =
-    by-cond (Given (Placed room at count)) (ltb mostLength (at + count)) (λ _. tt)
-    (λ s. by-cond (Given (Placed room at count)) (ltb room (at + count)) (λ _. tt)
-    (λ f. record { after = refl; short = ltb-false mostLength (at + count) s; fits = ltb-false room (at + count) f }))
+place-given : (capacity at count : ℕ) → Given (Placed capacity at count) (placeFor capacity at count)
+place-given capacity at count =
+    by-cond (Given (Placed capacity at count)) (ltb mostLength (at + count)) (λ _. tt)
+    (λ s. by-cond (Given (Placed capacity at count)) (ltb capacity (at + count)) (λ _. tt)
+    (λ f. record { after = refl; short = ltb-false mostLength (at + count) s; fits = ltb-false capacity (at + count) f }))
 
-pub placed : {next : ℕ} (room at count : ℕ) → placeFor room at count ≡ At next → Placed room at count next
-placed room at count e = rw e at (place-given room at count)
+pub placed : {next : ℕ} (capacity at count : ℕ) → placeFor capacity at count ≡ At next → Placed capacity at count next
+placed capacity at count e = rw e at (place-given capacity at count)
 
-pub record Fronted (room pages slots mode next : ℕ) : Type 0 where
+pub record HeaderFits (capacity pages slots mode next : ℕ) : Type 0 where
   pub after : next ≡ firstAction
   pub accepted : sizeFits (sizeOf pages slots mode) ≡ true
-  pub fits : firstAction ≤ room
+  pub fits : firstAction ≤ capacity
 
-front-given : (room pages slots mode : ℕ) → Given (Fronted room pages slots mode) (headerPlace room pages slots mode)
-front-given room pages slots mode =
-    by-cond (Given (Fronted room pages slots mode)) (not (sizeFits (sizeOf pages slots mode))) (λ _. tt)
-    (λ s. by-cond (Given (Fronted room pages slots mode)) (ltb room firstAction) (λ _. tt)
-    (λ f. record { after = refl; accepted = not-false (sizeFits (sizeOf pages slots mode)) s; fits = ltb-false room firstAction f }))
+header-given : (capacity pages slots mode : ℕ) → Given (HeaderFits capacity pages slots mode) (headerPlace capacity pages slots mode)
+header-given capacity pages slots mode =
+    by-cond (Given (HeaderFits capacity pages slots mode)) (not (sizeFits (sizeOf pages slots mode))) (λ _. tt)
+    (λ s. by-cond (Given (HeaderFits capacity pages slots mode)) (ltb capacity firstAction) (λ _. tt)
+    (λ f. record { after = refl; accepted = not-false (sizeFits (sizeOf pages slots mode)) s; fits = ltb-false capacity firstAction f }))
 
-pub fronted : {next : ℕ} (room pages slots mode : ℕ) → headerPlace room pages slots mode ≡ At next → Fronted room pages slots mode next
-fronted room pages slots mode e = rw e at (front-given room pages slots mode)
+pub header-fits : {next : ℕ} (capacity pages slots mode : ℕ) → headerPlace capacity pages slots mode ≡ At next → HeaderFits capacity pages slots mode next
+header-fits capacity pages slots mode e = rw e at (header-given capacity pages slots mode)
 
 -- ---- a run of stores
 

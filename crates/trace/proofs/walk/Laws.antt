@@ -1,4 +1,4 @@
--- Where a walk begins is within the bytes; the set-up of a front that is not refused is one that a ring accepts; the test of the room, as the code makes it; and where a
+-- Where a walk begins is within the bytes; the set-up of a header that is not refused is one that a ring accepts; the test of the buffer, as the code makes it; and where a
 -- replay ends, `nine-right`: a refusal 9 stands at an unknown or cut action.
 -- Assumes nothing.
 use mathlib.Core.Path.{_≡_, refl, sym, ap, _∙_, subst}
@@ -14,17 +14,15 @@ use Rattle.rules.specs.Lists.{first}
 use Rattle.rules.specs.State.{sizeOf, State}
 use Rattle.rules.specs.Shape.{sizeFits}
 use Rattle.rules.specs.Actions.{Decoded, byteAt, decoded, Decodes}
-use Rattle.rules.specs.Replay.{answerNumbers, ranRoom, roomFits, roomRule}
-use Rattle.ring.specs.Replay.{refusedReplay, ran, replayRule}
+use Rattle.rules.specs.Replay.{answerNumbers, ranBuffer, bufferFits, bufferRule, refusedReplay, ran, replayRule, ReplayOutcome}
 use Rattle.rules.specs.declared.state.Refusal.{Refusal}
 use Rattle.rules.specs.declared.state.Refusal.the-variants as refusal
 use Rattle.rules.specs.declared.state.Answer.the-variants as answer
-use Rattle.ring.specs.declared.state.Replay.{Replay}
 use Rattle.rules.proofs.Lists.{by-cond, by-eq}
 use Rattle.rules.proofs.actions.Laws.{stop-within, decodes}
 use Rattle.rules.proofs.actions.Shift.{shifted, decoded-drop}
 use Rattle.trace.specs.Header.{modeOf, setUp, pagesAt, slotsAt, modeAt, setUpIn, headerRows, headerOf}
-use Rattle.trace.specs.Replays.{walkPlace, walkBytes, walkActions, wholeTo, walked, frontRing, replayedBy, replayedFrom, NineRight}
+use Rattle.trace.specs.Replays.{walkPlace, walkBytes, walkActions, wholeTo, walked, headerRing, replayedBy, replayedFrom, NineRight}
 use Rattle.trace.specs.declared.parts.Header.{Header}
 use Rattle.trace.specs.declared.parts.Header.the-variants.{Ready, Refused}
 
@@ -34,25 +32,25 @@ place-within len at =
     (λ e. omega arith)
     (λ e. let l = ltb-false len at e in omega arith)
 
--- ---- the front
+-- ---- the header
 
--- a refusal of the front is not that of an action
-abbrev OfFront : Refusal → Type 0
-OfFront refusal.Mark = Unit {0}
-OfFront refusal.Version = Unit {0}
-OfFront refusal.Sizes = Unit {0}
-OfFront refusal.Shape = ⊥
-OfFront refusal.Depth = ⊥
-OfFront refusal.Nobody = ⊥
-OfFront refusal.Worn = ⊥
-OfFront refusal.SetUp = ⊥
-OfFront refusal.Action = ⊥
-OfFront refusal.Room = ⊥
+-- a refusal of the header is not that of an action
+abbrev OfHeader : Refusal → Type 0
+OfHeader refusal.Mark = Unit {0}
+OfHeader refusal.Version = Unit {0}
+OfHeader refusal.Sizes = Unit {0}
+OfHeader refusal.Shape = ⊥
+OfHeader refusal.Depth = ⊥
+OfHeader refusal.Nobody = ⊥
+OfHeader refusal.Worn = ⊥
+OfHeader refusal.SetUp = ⊥
+OfHeader refusal.Action = ⊥
+OfHeader refusal.Room = ⊥
 
 -- what it says is a set-up that a ring accepts, or a refusal of its own
 abbrev pub Accepts : Header → Type 0
 Accepts (Ready pages slots mode) = sizeFits (sizeOf pages slots mode) ≡ true
-Accepts (Refused why) = OfFront why
+Accepts (Refused why) = OfHeader why
 
 set-up-accepts : (pages slots mode : ℕ) → Accepts (setUp pages slots mode)
 set-up-accepts pages slots mode = by-cond Accepts (sizeFits (sizeOf pages slots (modeOf mode))) (λ e. e) (λ e. tt)
@@ -74,17 +72,17 @@ header-accepts bytes =
 pub ready-fits : (bytes : List ℕ) {pages slots mode : ℕ} → headerOf bytes ≡ Ready pages slots mode → sizeFits (sizeOf pages slots mode) ≡ true
 ready-fits bytes e = subst Accepts e (header-accepts bytes)
 
--- ---- the room, for a walk that begins at `from`
+-- ---- the buffer, for a walk that begins at `from`
 
-module _ (bytes room : List ℕ) (at from : ℕ) (e : from ≡ walkPlace (length bytes) at) where
+module _ (bytes buffer : List ℕ) (at from : ℕ) (e : from ≡ walkPlace (length bytes) at) where
   walk-length : length (walkBytes bytes at) ≡ length bytes - from
   walk-length = length-drop (walkPlace (length bytes) at) bytes ∙ ap (λ (k : ℕ). length bytes - k) (sym e)
 
-  pub room-short : length room / answerNumbers < length bytes - from → roomFits (walkBytes bytes at) room ≡ false
-  room-short l = ap not (lt-ltb (length room / answerNumbers) (length (walkBytes bytes at)) (rw walk-length l))
+  pub buffer-short : length buffer / answerNumbers < length bytes - from → bufferFits (walkBytes bytes at) buffer ≡ false
+  buffer-short l = ap not (lt-ltb (length buffer / answerNumbers) (length (walkBytes bytes at)) (rw walk-length l))
 
-  pub room-enough : length bytes - from ≤ length room / answerNumbers → roomFits (walkBytes bytes at) room ≡ true
-  room-enough l = ap not (le-ltb (length room / answerNumbers) (length (walkBytes bytes at)) (rw walk-length l))
+  pub buffer-enough : length bytes - from ≤ length buffer / answerNumbers → bufferFits (walkBytes bytes at) buffer ≡ true
+  buffer-enough l = ap not (le-ltb (length buffer / answerNumbers) (length (walkBytes bytes at)) (rw walk-length l))
 
   -- the part of the bytes that the code passes on
   pub walk-part : take (length bytes - from) (drop from bytes) ≡ walkBytes bytes at
@@ -111,7 +109,7 @@ module _ (bytes : List ℕ) (at : ℕ) where
   from-place : Decodes bytes (walkPlace (length bytes) at)
   from-place = decodes bytes (walkPlace (length bytes) at)
 
-  refused-right : (why : Refusal) (r : Replay) → (why ≡ refusal.Action → ⊥) → r .answer ≡ answer.Refused why → NineRight bytes r
+  refused-right : (why : Refusal) (r : ReplayOutcome) → (why ≡ refusal.Action → ⊥) → r .answer ≡ answer.Refused why → NineRight bytes r
   refused-right why r n e =
       record {
         nine = λ h. let same : why ≡ refusal.Action = cc in absurd (n same);
@@ -137,28 +135,28 @@ module _ (bytes : List ℕ) (at : ℕ) where
       refused-or : wholeTo (length bytes) (d .stop) ≡ answer.Accepted → eqb (d .stop) (length bytes) ≡ false → _≡_ {A = ℕ} 0 1
       refused-or h e = let q : answer.Refused refusal.Action ≡ answer.Accepted = rw e at h in cc
 
-  front-not-action : (why : Refusal) → OfFront why → why ≡ refusal.Action → ⊥
-  front-not-action why h e = subst OfFront e h
+  header-not-action : (why : Refusal) → OfHeader why → why ≡ refusal.Action → ⊥
+  header-not-action why h e = subst OfHeader e h
 
-  room-not-action : refusal.Room ≡ refusal.Action → ⊥
-  room-not-action e = let z : _≡_ {A = ℕ} 0 1 = cc in omega arith
+  buffer-not-action : refusal.Room ≡ refusal.Action → ⊥
+  buffer-not-action e = let z : _≡_ {A = ℕ} 0 1 = cc in omega arith
 
-  by-right : (room : List ℕ) (h : Header) → Accepts h → NineRight bytes (replayedBy h bytes at room)
-  by-right room (Refused why) ok = refused-right why (refusedReplay why) (front-not-action why ok) refl
-  by-right room (Ready pages slots mode) ok =
-      by-cond (NineRight bytes) (roomFits (walkBytes bytes at) room)
-      (λ e. walked-right (frontRing pages slots mode))
-      (λ e. refused-right refusal.Room (refusedReplay refusal.Room) room-not-action refl)
+  by-right : (buffer : List ℕ) (h : Header) → Accepts h → NineRight bytes (replayedBy h bytes at buffer)
+  by-right buffer (Refused why) ok = refused-right why (refusedReplay why) (header-not-action why ok) refl
+  by-right buffer (Ready pages slots mode) ok =
+      by-cond (NineRight bytes) (bufferFits (walkBytes bytes at) buffer)
+      (λ e. walked-right (headerRing pages slots mode))
+      (λ e. refused-right refusal.Room (refusedReplay refusal.Room) buffer-not-action refl)
 
-  pub nine-right : (room : List ℕ) → NineRight bytes (replayedFrom bytes at room)
+  pub nine-right : (buffer : List ℕ) → NineRight bytes (replayedFrom bytes at buffer)
   unfolding replayedFrom
-  nine-right room = by-right room (headerOf bytes) (header-accepts bytes)
+  nine-right buffer = by-right buffer (headerOf bytes) (header-accepts bytes)
 
--- ---- a run whose set-up and room are as they should be
+-- ---- a run whose set-up and buffer are as they should be
 
-module _ (pages slots mode : ℕ) (bytes room : List ℕ) (fits : sizeFits (sizeOf pages slots mode) ≡ true) (enough : roomFits bytes room ≡ true) where
-  pub rule-runs : replayRule pages slots mode bytes room ≡ ran (frontRing pages slots mode) (decoded bytes)
+module _ (pages slots mode : ℕ) (bytes buffer : List ℕ) (fits : sizeFits (sizeOf pages slots mode) ≡ true) (enough : bufferFits bytes buffer ≡ true) where
+  pub rule-runs : replayRule pages slots mode bytes buffer ≡ ran (headerRing pages slots mode) (decoded bytes)
   rule-runs = rw (fits, enough)
 
-  pub rule-fills : roomRule pages slots mode bytes room ≡ ranRoom (frontRing pages slots mode) (decoded bytes) room
+  pub rule-fills : bufferRule pages slots mode bytes buffer ≡ ranBuffer (headerRing pages slots mode) (decoded bytes) buffer
   rule-fills = rw (fits, enough)

@@ -1,4 +1,4 @@
--- `files::read_all` is safe and ends, and counts bytes of the room. The measure is what is left of the room, which stays as long as it is. Assumes nothing.
+-- `files::read_all` is safe and ends, and counts bytes of the buffer. The measure is what is left of the buffer, which stays as long as it is. Assumes nothing.
 use borrow.Author.Needs.{needs}
 use mathlib.Core.Path.{_≡_}
 use Prim.Native.Nat.{_-_, _^_, _≤_, _<_}

@@ -1,4 +1,4 @@
--- `print::action_lines` is safe and ends. Each answer that is counted stands in the room. The measure is how many are left. Assumes nothing.
+-- `print::action_lines` is safe and ends. Each answer that is counted stands in the buffer. The measure is how many are left. Assumes nothing.
 use borrow.Author.Needs.{needs}
 use Prim.Native.Nat.{_*_, _-_, _≤_}
 use lib.ListN.{length}

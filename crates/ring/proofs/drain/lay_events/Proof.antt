@@ -1,4 +1,4 @@
--- `drain::lay_events` stores the readings of the slots one after the other: after i turns the first i of them stand in the room. Assumes nothing.
+-- `drain::lay_events` stores the readings of the slots one after the other: after i turns the first i of them stand in the buffer. Assumes nothing.
 use mathlib.Core.Path.{_≡_, refl, sym, ap, _∙_}
 use Prim.Native.Nat.{ℕ, _*_, _^_, _-_, _≤_, _<_}
 use native.Mathlib.Omega.{arith}
@@ -13,25 +13,25 @@ use Rattle.ring.proofs.drain.lay_events.Statement.{statement}
 use Rattle.ring.proofs.drain.lay_events.Tie as tie
 
 abbrev Inv-loop : tie.InvT-loop
-Inv-loop room₀ at from count numbers values i₀ room i = (i ≤ count) × (room ≡ sets room₀ at (eventsFrom numbers values from i))
+Inv-loop buffer₀ at from count numbers values i₀ buffer i = (i ≤ count) × (buffer ≡ sets buffer₀ at (eventsFrom numbers values from i))
 
 abbrev μ-loop : tie.MeasureT-loop
-μ-loop room₀ at from count numbers values i₀ room i = count - i
+μ-loop buffer₀ at from count numbers values i₀ buffer i = count - i
 
--- the room stays as long as it was
-same-size : (c : tie.In-loop Inv-loop μ-loop) → length (c .before .loop .room) ≡ length (c .before .before .before .args .room .now)
+-- the buffer stays as long as it was
+same-size : (c : tie.In-loop Inv-loop μ-loop) → length (c .before .loop .buffer) ≡ length (c .before .before .before .args .buffer .now)
 same-size c =
     let start = c .before .before .before .args in
-    ap length (c .before .loop .inv .1) ∙ length-sets (start .room .now) (start .at) (eventsFrom (start .numbers .now) (start .values .now) (start .from) (c .before .loop .i))
+    ap length (c .before .loop .inv .1) ∙ length-sets (start .buffer .now) (start .at) (eventsFrom (start .numbers .now) (start .values .now) (start .from) (c .before .loop .i))
 
-room-small : (c : tie.After-slice-known Inv-loop μ-loop) → length (c .before .args .room .now) * 8 < 2 ^ 64
-room-small c = search needs
+buffer-small : (c : tie.After-slice-known Inv-loop μ-loop) → length (c .before .args .buffer .now) * 8 < 2 ^ 64
+buffer-small c = search needs
 
-slice-write-room : tie.Need-slice-write-room Inv-loop μ-loop
-slice-write-room c = omega (arith, same-size (c .before .before .before))
+slice-write-buffer : tie.Need-slice-write-buffer Inv-loop μ-loop
+slice-write-buffer c = omega (arith, same-size (c .before .before .before))
 
-mul-room : tie.Need-mul-room Inv-loop μ-loop
-mul-room c = omega (arith, room-small (c .before .before .before .before .before))
+mul-buffer : tie.Need-mul-buffer Inv-loop μ-loop
+mul-buffer c = omega (arith, buffer-small (c .before .before .before .before .before))
 
 loop-again : tie.Need-loop-again Inv-loop μ-loop
 loop-again c =
@@ -40,19 +40,19 @@ loop-again c =
     let f = eventAt (start .numbers .now) (start .values .now) (start .from) in (
       omega arith,
       rw (l .inv .1, c .event-number .ensures, add-one)
-          (sym (sets-more (tabulate (l .i) f) (start .room .now) (start .at) (f (l .i)) (l .i) (sym (length-tabulate f (l .i))))),
+          (sym (sets-more (tabulate (l .i) f) (start .buffer .now) (start .at) (f (l .i)) (l .i) (sym (length-tabulate f (l .i))))),
     )
 
 same-length : tie.Need-same-length Inv-loop μ-loop
 same-length c =
     let start = c .before .before .before .args in
-    ap length (c .before .loop .inv .1) ∙ length-sets (start .room .now) (start .at) (eventsFrom (start .numbers .now) (start .values .now) (start .from) (c .before .loop .i))
+    ap length (c .before .loop .inv .1) ∙ length-sets (start .buffer .now) (start .at) (eventsFrom (start .numbers .now) (start .values .now) (start .from) (c .before .loop .i))
 
 returns : tie.Need-returns Inv-loop μ-loop
 returns c =
     let start = c .before .before .before .args in
     let all : c .before .loop .i ≡ start .count = omega arith in
-    c .before .loop .inv .1 ∙ ap (λ (k : ℕ). sets (start .room .now) (start .at) (eventsFrom (start .numbers .now) (start .values .now) (start .from) k)) all
+    c .before .loop .inv .1 ∙ ap (λ (k : ℕ). sets (start .buffer .now) (start .at) (eventsFrom (start .numbers .now) (start .values .now) (start .from) k)) all
 
 pub lay-events-spec : {M : Type 1} → statement M
 lay-events-spec =
@@ -67,10 +67,10 @@ lay-events-spec =
     (λ c. omega arith)
     (λ c. omega arith)
     (λ c κs. search needs)
-    (λ c. omega (arith, room-small (c .before .before .before .before .before)))
-    mul-room
-    slice-write-room
-    (λ c. omega (arith, room-small (c .before .before .before .before .before)))
+    (λ c. omega (arith, buffer-small (c .before .before .before .before .before)))
+    mul-buffer
+    slice-write-buffer
+    (λ c. omega (arith, buffer-small (c .before .before .before .before .before)))
     (λ c. omega arith)
     loop-again
     same-length

@@ -1,4 +1,4 @@
--- `replay::lay_answer` stores the three numbers, within the room. Assumes nothing.
+-- `replay::lay_answer` stores the three numbers, within the buffer. Assumes nothing.
 use native.Mathlib.Omega.{arith}
 use borrow.Author.Needs.{needs}
 use lib.ListN.{length-set}

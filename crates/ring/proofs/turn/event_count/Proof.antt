@@ -27,7 +27,7 @@ returns c =
 returns-2 : tie.Need-returns-2
 returns-2 c =
     let a = c .before .args in
-    fetch-of-numbers (λ (f : Fetch). 0 ≡ eventCount f (a .places) (a .counts) (a .used .now) (a .room)) (1 ∷ 2 ∷ 3 ∷ 4 ∷ 5 ∷ 6 ∷ []) (a .f)
+    fetch-of-numbers (λ (f : Fetch). 0 ≡ eventCount f (a .places) (a .counts) (a .used .now) (a .space)) (1 ∷ 2 ∷ 3 ∷ 4 ∷ 5 ∷ 6 ∷ []) (a .f)
     (refl, (refl, ((λ p h. refl), ((λ p h. refl), ((λ p h. refl), (refl, tt))))))
     (c .match .keys2)
 

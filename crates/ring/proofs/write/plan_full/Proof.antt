@@ -4,7 +4,7 @@ use mathlib.Core.Path.{_≡_}
 use mathlib.Core.Bool.{false, _&&_}
 use borrow.Author.Tests.{eq-eqb, ne-eqb}
 use lib.Dec.{eqb}
-use Rattle.rules.specs.Limits.{stop, header}
+use Rattle.rules.specs.Limits.{stopMode, headerFlag}
 use Rattle.rules.specs.Words.{samePage, readerOnCommit}
 use Rattle.ring.proofs.write.plan_full.Statement.{statement}
 use Rattle.ring.proofs.write.plan_full.Tie as tie
@@ -29,10 +29,10 @@ not-a c = ne-eqb _ _ (c .if1 .left)
 not-b : (c : tie.Else2) → samePage (start-b c .args .n) (start-b c .args .places .commit) ≡ false
 not-b c = ne-eqb _ _ (c .if2 .left)
 
-not-c : (c : tie.Else3) → eqb (start-c c .args .flag) header && readerOnCommit (start-c c .args .places) ≡ false
+not-c : (c : tie.Else3) → eqb (start-c c .args .flag) headerFlag && readerOnCommit (start-c c .args .places) ≡ false
 not-c c = c .if3 .left
 
-not-d : (c : tie.Else4) → eqb (start-d c .args .flag) header && eqb (start-d c .args .size .mode) stop ≡ false
+not-d : (c : tie.Else4) → eqb (start-d c .args .flag) headerFlag && eqb (start-d c .args .size .mode) stopMode ≡ false
 not-d c = c .if4 .left
 
 -- ---- the first that applies

@@ -3,7 +3,7 @@ use mathlib.Core.Path.{_≡_, sym, _∙_}
 use mathlib.Core.Bool.{false}
 use borrow.Author.Needs.{needs}
 use denote.Ref.{now}
-use Rattle.rules.specs.Limits.{header}
+use Rattle.rules.specs.Limits.{headerFlag}
 use Rattle.rules.specs.Words.{links}
 use Rattle.ring.proofs.write.plan_mark.Statement.{statement}
 use Rattle.ring.proofs.write.plan_mark.Tie as tie
@@ -11,7 +11,7 @@ use Rattle.ring.proofs.write.plan_mark.Tie as tie
 not-header :
     (c : tie.Else1) →
     let a = c .before .before .args in
-    links (now (a .words)) (a .t) (a .n) header ≡ false
+    links (now (a .words)) (a .t) (a .n) headerFlag ≡ false
 not-header c = sym (c .before .links .ensures) ∙ c .if1 .left
 
 returns : tie.Need-returns

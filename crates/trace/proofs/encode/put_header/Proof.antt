@@ -1,38 +1,38 @@
--- `encode::put_header` is the definition: by what `header_place` gives, the front is stored or nothing is. An accepted set-up fits its three bytes.
+-- `encode::put_header` is the definition: by what `header_place` gives, the header is stored or nothing is. An accepted set-up fits its three bytes.
 -- Assumes nothing.
 use mathlib.Core.Path.{refl, sym, _∙_}
 use native.Mathlib.Omega.{arith}
 use borrow.Author.Needs.{needs}
 use lib.ListN.{length}
-use Rattle.trace.proofs.encode.Laws.{small, fronted}
+use Rattle.trace.proofs.encode.Laws.{small, header-fits}
 use Rattle.trace.proofs.encode.put_header.Statement.{statement}
 use Rattle.trace.proofs.encode.put_header.Tie as tie
 
 cast-store-header : tie.Need-cast-store-header
 cast-store-header c =
     let a = c .before .before .before .before .before .before .args in
-    let p = fronted (length (a .out .now)) (a .pages) (a .slots) (a .mode) (sym (c .before .before .before .before .header-place .ensures) ∙ c .before .before .place .given .1) in
+    let p = header-fits (length (a .out .now)) (a .pages) (a .slots) (a .mode) (sym (c .before .before .before .before .header-place .ensures) ∙ c .before .before .place .given .1) in
     let s = small (a .pages) (a .slots) (a .mode) (p .accepted) in
     omega arith
 
 cast-store-header-2 : tie.Need-cast-store-header-2
 cast-store-header-2 c =
     let a = c .before .before .before .before .before .before .args in
-    let p = fronted (length (a .out .now)) (a .pages) (a .slots) (a .mode) (sym (c .before .before .before .before .header-place .ensures) ∙ c .before .before .place .given .1) in
+    let p = header-fits (length (a .out .now)) (a .pages) (a .slots) (a .mode) (sym (c .before .before .before .before .header-place .ensures) ∙ c .before .before .place .given .1) in
     let s = small (a .pages) (a .slots) (a .mode) (p .accepted) in
     omega arith
 
 cast-store-header-3 : tie.Need-cast-store-header-3
 cast-store-header-3 c =
     let a = c .before .before .before .before .before .before .args in
-    let p = fronted (length (a .out .now)) (a .pages) (a .slots) (a .mode) (sym (c .before .before .before .before .header-place .ensures) ∙ c .before .before .place .given .1) in
+    let p = header-fits (length (a .out .now)) (a .pages) (a .slots) (a .mode) (sym (c .before .before .before .before .header-place .ensures) ∙ c .before .before .place .given .1) in
     let s = small (a .pages) (a .slots) (a .mode) (p .accepted) in
     omega arith
 
 store-header-requires : tie.Need-store-header-requires
 store-header-requires c κs =
     let a = c .before .before .before .before .before .before .args in
-    fronted (length (a .out .now)) (a .pages) (a .slots) (a .mode) (sym (c .before .before .before .before .header-place .ensures) ∙ c .before .before .place .given .1) .fits
+    header-fits (length (a .out .now)) (a .pages) (a .slots) (a .mode) (sym (c .before .before .before .before .header-place .ensures) ∙ c .before .before .place .given .1) .fits
 
 returns : tie.Need-returns
 returns c =

@@ -1,4 +1,4 @@
--- `encode::store_header` puts the bytes of the front. Assumes nothing.
+-- `encode::store_header` puts the bytes of the header. Assumes nothing.
 use native.Mathlib.Omega.{arith}
 use lib.ListN.{length-set}
 use lib.Seq.{sets-eq}

@@ -1,5 +1,5 @@
 -- `trace::reader::replay` meets its contract: a walk of its MIR, by hand. All that it knows of `TraceReader::open` and `TraceReader::replay` is that each meets its contract.
--- What `open` returns is, by its contract, a reader that is known whole. So what `TraceReader::replay` says of the room's last list is said of this room, which goes to it at its own lifetime, share and ghost name, and is given up for good (`gave-slice`).
+-- What `open` returns is, by its contract, a reader that is known whole. So what `TraceReader::replay` says of the buffer's last list is said of this buffer, which goes to it at its own lifetime, share and ghost name, and is given up for good (`gave-slice`).
 -- Assumes nothing.
 use mathlib.Core.Path.{_≡_, refl, sym, _∙_, ap, subst}
 use Prim.Native.Nat.{ℕ}
@@ -42,7 +42,9 @@ use Rattle.ring.specs.declared.state.Replay.{Replay}
 use Rattle.ring.proofs.state.Replay as R
 use Rattle.ring.proofs.state.Replay.Laws as R′
 use Rattle.trace.specs.Header.{firstAction}
-use Rattle.trace.specs.Replays.{replayedFrom, roomFrom}
+use Rattle.rules.specs.Replay.{ReplayOutcome}
+use Rattle.ring.specs.Replay.{replayOutcome}
+use Rattle.trace.specs.Replays.{replayedFrom, bufferFrom}
 use Rattle.trace.specs.declared.reader.TraceReader.{TraceReader}
 use Rattle.trace.proofs.reader.TraceReader as T
 use Rattle.trace.proofs.reader.TraceReader.Laws as T′
@@ -102,21 +104,21 @@ module _ {M : Type 1} (𝓤 : URA M) (H : Heap 𝓤) (A : Atoms 𝓤) (W : Given
   abbrev αᵉ : NamedLft
   αᵉ = record { mir = erased; lft = κ }
 
-  -- what is returned, and what the room holds then
-  abbrev found : Replay
+  -- what is returned, and what the buffer holds then
+  abbrev found : ReplayOutcome
   found = replayedFrom (now s) firstAction (now x)
 
   abbrev left : List ℕ
-  left = roomFrom (now s) firstAction (now x)
+  left = bufferFrom (now s) firstAction (now x)
 
-  -- what the room owns
+  -- what the buffer owns
   abbrev Lent : Fml
   Lent = owns (MutSlice (named 1) κ′ u64 ∷ []) (x, tt) (slice x ∷ [], tt)
 
   abbrev Post : Val → SProp 𝓤
   Post = walkOf 𝓤 H A replay.ended stayed (replay.clauses 𝓤 H A mem run) .post ((κs, qs, tt, (s, (x, tt)), vals), tt)
 
-  -- the call of `open`: what it is passed, what it asks, and what is known of its result. What the bytes and the room own is kept, and the room's token
+  -- the call of `open`: what it is passed, what it asks, and what is known of its result. What the bytes and the buffer own is kept, and the buffer's token
   abbrev to-open : Open 𝓤 H A mem run .Ghost
   to-open = (((κ, tt), (q, tt), tt, (s, tt), (slice s ∷ [], tt)), tt)
 
@@ -127,7 +129,7 @@ module _ {M : Type 1} (𝓤 : URA M) (H : Heap 𝓤) (A : Atoms 𝓤) (W : Given
   goes-open =
       qed W ((‵ (flft κ q) ⊛ ‵ (flft κ′ q′) ⊛ ‵ ftrue) ∷ ‵ (owns (ShrSlice (named 0) κ u8 ∷ MutSlice (named 1) κ′ u64 ∷ []) (s, (x, tt)) vals) ∷ []) ∵
       split ! $ move ! (1 ∷ []) $ split ! $ move ! (2 ∷ 1 ∷ []) $ join ! $
-      -- [the bytes' token; the room's; what both own]
+      -- [the bytes' token; the buffer's; what both own]
       move ! (2 ∷ []) $ fsplit ! $ use1 W (‵ (Bytes κ s) ⊛ ‵ (Bytes κ s)) (twice-bytes 𝓤 H A W κ s) $ split ! $ nothing ! $ move ! (1 ∷ 0 ∷ []) $ fjoin ! $
       move ! (3 ∷ 0 ∷ []) $ use2 W (raw (Open 𝓤 H A mem run .pre to-open)) open-asks $ frame ! $ done !
 
@@ -145,17 +147,17 @@ module _ {M : Type 1} (𝓤 : URA M) (H : Heap 𝓤) (A : Atoms 𝓤) (W : Given
   goes-method w =
       qed W (‵ (Row κ .own reader (w ∷ [])) ∷ (‵ (flft κ q) ⊛ ‵ ftrue) ∷ (‵ (Bytes κ s) ⊛ ‵ Lent ⊛ ‵ (flft κ′ q′)) ∷ []) ∵
       move ! (2 ∷ []) $ split ! $ move ! (1 ∷ []) $ split ! $ move ! (3 ∷ 0 ∷ []) $ fjoin ! $
-      -- [what the reader and the room own; the room's token; what the bytes own; the bytes' token]
+      -- [what the reader and the buffer own; the buffer's token; what the bytes own; the bytes' token]
       move ! (3 ∷ []) $ split ! $ move ! (3 ∷ 1 ∷ []) $ join ! $ move ! (1 ∷ 0 ∷ []) $ join ! $ use2 W (raw (Method 𝓤 H A mem run .pre (to-method w))) (method-asks w) $ frame ! $ done !
 
-  -- of the method's `ensured`: what it returns, and the room's last list
-  method-said : (r : Replay) → ent 𝓤 (ensured 𝓤 H A method.ended (method.clauses 𝓤 H A mem run) κs (reader, (x, tt)) tt r) (guard 𝓤 ((r ≡ found) × (length left ≡ length (now x))) (sem 𝓤 H A (finally u64 (x .name) left)))
+  -- of the method's `ensured`: what it returns, and the buffer's last list
+  method-said : (r : Replay) → ent 𝓤 (ensured 𝓤 H A method.ended (method.clauses 𝓤 H A mem run) κs (reader, (x, tt)) tt r) (guard 𝓤 ((replayOutcome r ≡ found) × (length left ≡ length (now x))) (sem 𝓤 H A (finally u64 (x .name) left)))
   method-said r =
-      qed W (some (λ (ws : Unit {0} × (List ℕ × Unit {0})). ‵ (lasts method.ended κs (reader, (x, tt)) ws) ⊛ raw (fact 𝓤 ((r ≡ found) × (ws .1 .0 ≡ left)))) ∷ []) ∵ pick ! (λ ws.
-      split ! $ move ! (1 ∷ []) $ heard ! ((r ≡ found) × (ws .1 .0 ≡ left)) (λ e. fsplit ! $ move ! (1 ∷ []) $ fsplit ! $ fsplit ! $ move ! (1 ∷ []) $ feqL ! (λ l.
+      qed W (some (λ (ws : Unit {0} × (List ℕ × Unit {0})). ‵ (lasts method.ended κs (reader, (x, tt)) ws) ⊛ raw (fact 𝓤 ((replayOutcome r ≡ found) × (ws .1 .0 ≡ left)))) ∷ []) ∵ pick ! (λ ws.
+      split ! $ move ! (1 ∷ []) $ heard ! ((replayOutcome r ≡ found) × (ws .1 .0 ≡ left)) (λ e. fsplit ! $ move ! (1 ∷ []) $ fsplit ! $ fsplit ! $ move ! (1 ∷ []) $ feqL ! (λ l.
       keep ! (0 ∷ []) $ rewrite ! 0 (λ (zs : List ℕ). ‵ (finally u64 (x .name) zs)) (e .1) refl $ check ! (e .0, ap length (sym (e .1)) ∙ l) $ done !)))
 
-  exits : (r : Replay) (u : Val) → (r ≡ found) × (length left ≡ length (now x))
+  exits : (r : Replay) (u : Val) → (replayOutcome r ≡ found) × (length left ≡ length (now x))
       → ent 𝓤 (⋆ 𝓤 H A (‵ (R.the-row .own r (u ∷ [])) ∷ (‵ (flft κ q) ⊛ ‵ (flft κ′ q′) ⊛ ‵ ftrue) ∷ ‵ (finally u64 (x .name) left) ∷ ‵ (Bytes κ s) ∷ [])) (Post u)
   exits r u e =
       qed W (‵ (R.the-row .own r (u ∷ [])) ∷ (‵ (flft κ q) ⊛ ‵ (flft κ′ q′) ⊛ ‵ ftrue) ∷ ‵ (finally u64 (x .name) left) ∷ ‵ (Bytes κ s) ∷ []) ∵
@@ -164,27 +166,27 @@ module _ {M : Type 1} (𝓤 : URA M) (H : Heap 𝓤) (A : Atoms 𝓤) (W : Given
 
   module _ (C : Calls 𝓤 H) (Λ : Loops 𝓤 H) (fm : FmC 𝓤 H (W .laws) C) (known-open : Triple 𝓤 (C #open) (Open 𝓤 H A mem run)) (known-method : Triple 𝓤 (C #method) (Method 𝓤 H A mem run)) (τ : Ty) (typed : (r : Replay) (u : Val) → Is R.the-row r (u ∷ []) → Holds (hasTy τ u) × WT u) where
     walk : Is (ShrSlice (named 0) κ u8) s (slice s ∷ []) → Room u64 (length (now x)) → ent 𝓤 (onEntry 𝓤 H A replay.signature κs qs (s, (x, tt)) vals) (WpFn 𝓤 H C Λ (shape τ) (slice s ∷ slice x ∷ []) Post)
-    walk p room =
+    walk p buffer =
         qed W (raw (onEntry 𝓤 H A replay.signature κs qs (s, (x, tt)) vals) ∷ []) ∵ enter ! C Λ (shape τ) (slice s ∷ slice x ∷ []) _ $
         alloc1 ! (λ l₀. alloc1 ! (λ l₁. alloc1 ! (λ l₂. alloc1 ! (λ l₃. alloc1 ! (λ l₄. alloc1 ! (λ l₅. alloc0 ! $ params1 ! $
-        pass1 ! (init ! 8 refl (shr-slice-lawful 𝓤 H A W (named 0) κ u8 .typed s (slice s ∷ []) p .0)) $ pass1 ! (init ! 6 refl (tt, (tt, (record { fits = room .0 }, tt)))) $ pass0 ! $
-        -- [_5; …; _4; …; _3; …; _2; …; _1; …; room for _0; …; what is had at entry]
+        pass1 ! (init ! 8 refl (shr-slice-lawful 𝓤 H A W (named 0) κ u8 .typed s (slice s ∷ []) p .0)) $ pass1 ! (init ! 6 refl (tt, (tt, (record { fits = buffer .0 }, tt)))) $ pass0 ! $
+        -- [_5; …; _4; …; _3; …; _2; …; _1; …; buffer for _0; …; what is had at entry]
         move ! (12 ∷ []) $ use1 W (raw (Open 𝓤 H A mem run .pre to-open) ⊛ ‵ (Bytes κ s) ⊛ ‵ Lent ⊛ ‵ (flft κ′ q′)) goes-open $ split ! $
         calls-at ! fm (Open 𝓤 H A mem run) known-open to-open (and-then ! (load ! (from ! (stop !)) (look ! 10 refl)) (no-more !)) (λ w.
         use1 W (later (some (λ (r : TraceReader). ((‵ (flft κ q) ⊛ ‵ ftrue) ⊛ ‵ (Row κ .own r (w ∷ []))) ⊛ raw (ensured 𝓤 H A opened.ended (opened.clauses 𝓤 H A mem run) (κ, tt) (s, tt) tt r)))) (id⊢ 𝓤 _) $ await ! tt $ pick ! (λ r.
         split ! $ move ! (1 ∷ []) $ use1 W (raw (fact 𝓤 ((r .bytes ≡ s) × (r .at ≡ firstAction)))) (open-said r) $ heard ! ((r .bytes ≡ s) × (r .at ≡ firstAction)) (λ e.
         split ! $ rewrite ! 1 (λ (h : TraceReader). ‵ (Row κ .own h (w ∷ []))) (λ i. record { bytes = e .0 i; at = e .1 i }) refl $ move ! (1 ∷ []) $
-        -- [what the reader owns; the bytes' token; what is kept; _5; …; _4; …; room for _3; …]
+        -- [what the reader owns; the bytes' token; what is kept; _5; …; _4; …; buffer for _3; …]
         peeks ! (Row κ) (Is (Row κ)) (shows 𝓤 H A (Row κ)) reader (w ∷ []) (λ is.
         land ! (from ! (stop !)) (init ! 7 refl (LL.lawful (T.the-type αᵉ) (T′.the-laws αᵉ) 𝓤 H A W .typed reader _ is .0)) $
         assigns ! (addr ! (from ! (fld ! refl (hop ! (look-in ! 9 (sub ! 0 refl (whole !))) (stop !))))) (from ! (stop !)) (init ! 5 refl (tt, tt)) $
-        assigns ! (agg ! (and-then ! (load ! (from ! (stop !)) (look ! 5 refl)) (and-then ! (load ! (from ! (fld ! refl (stop !))) (look-in ! 9 (sub ! 1 refl (whole !)))) (no-more !)))) (from ! (stop !)) (init ! 3 refl (tt, (tt, (record { fits = room .0 }, tt)))) $
+        assigns ! (agg ! (and-then ! (load ! (from ! (stop !)) (look ! 5 refl)) (and-then ! (load ! (from ! (fld ! refl (stop !))) (look-in ! 9 (sub ! 1 refl (whole !)))) (no-more !)))) (from ! (stop !)) (init ! 3 refl (tt, (tt, (record { fits = buffer .0 }, tt)))) $
         use3 W (raw (Method 𝓤 H A mem run .pre (to-method w)) ⊛ ‵ (Bytes κ s)) (goes-method w) $ split ! $
         -- [what the method asks; what the bytes own; _5; …]
         calls-at ! fm (Method 𝓤 H A mem run) known-method (to-method w) (and-then ! (load ! (from ! (stop !)) (look ! 6 refl)) (and-then ! (load ! (from ! (stop !)) (look ! 2 refl)) (no-more !))) (λ u.
         use1 W (later (some (λ (t : Replay). ((‵ (flft κ q) ⊛ ‵ (flft κ′ q′) ⊛ ‵ ftrue) ⊛ ‵ (R.the-row .own t (u ∷ []))) ⊛ raw (ensured 𝓤 H A method.ended (method.clauses 𝓤 H A mem run) κs (reader, (x, tt)) tt t)))) (id⊢ 𝓤 _) $ await ! tt $ pick ! (λ t.
-        split ! $ move ! (1 ∷ []) $ use1 W (given ((t ≡ found) × (length left ≡ length (now x))) (‵ (finally u64 (x .name) left))) (method-said t) $ learn ! (λ e′. move ! (1 ∷ []) $ split ! $ move ! (1 ∷ []) $
-        -- [the result; the tokens; the room's last list; what the bytes own; _5; …; room for _0; …]
+        split ! $ move ! (1 ∷ []) $ use1 W (given ((replayOutcome t ≡ found) × (length left ≡ length (now x))) (‵ (finally u64 (x .name) left))) (method-said t) $ learn ! (λ e′. move ! (1 ∷ []) $ split ! $ move ! (1 ∷ []) $
+        -- [the result; the tokens; the buffer's last list; what the bytes own; _5; …; buffer for _0; …]
         peeks ! R.the-row (Is R.the-row) (shows 𝓤 H A R.the-row) t (u ∷ []) (λ is′.
         land ! (from ! (stop !)) (init ! 14 refl (typed t u is′)) $
         returns ! (look ! 14 refl) $ forget ! 4 refl $ forget ! 6 refl $ forget ! 8 refl $ forget ! 10 refl $ forget ! 12 refl $ forget ! 14 refl $

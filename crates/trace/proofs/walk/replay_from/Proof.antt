@@ -1,6 +1,6 @@
--- `walk::replay_from` is the definition: by the front, and by the room. Where neither refuses, the run is `Ring::replay`'s, whose own tests are passed already.
+-- `walk::replay_from` is the definition: by the header, and by the buffer. Where neither refuses, the run is `Ring::replay`'s, whose own tests are passed already.
 -- Assumes nothing.
-use mathlib.Core.Path.{_≡_, refl, sym, ap, _∙_}
+use mathlib.Core.Path.{_≡_, sym, ap, _∙_}
 use mathlib.Core.Bool.{true}
 use Prim.Native.Nat.{ℕ, _^_, _-_, _≤_, _<_}
 use native.Mathlib.Omega.{arith}
@@ -8,60 +8,59 @@ use borrow.Author.Needs.{needs}
 use mathlib.Core.List.{List}
 use lib.ListN.{length, take, drop}
 use Rattle.rules.specs.Actions.{Decoded, decoded}
-use Rattle.rules.specs.Replay.{ranRoom, roomFits, roomRule}
-use Rattle.ring.specs.Replay.{ran, replayRule}
-use Rattle.ring.specs.declared.state.Replay.{Replay}
+use Rattle.rules.specs.Replay.{ranBuffer, bufferFits, bufferRule, ran, replayRule, ReplayOutcome}
+use Rattle.ring.specs.Replay.{replayOutcome}
 use Rattle.rules.proofs.actions.Shift.{shifted}
 use Rattle.trace.specs.Header.{headerOf}
-use Rattle.trace.specs.Replays.{walkPlace, walkBytes, walkActions, walked, toldFrom, frontRing, replayedFrom, roomFrom}
+use Rattle.trace.specs.Replays.{walkPlace, walkBytes, walkActions, walked, toldFrom, headerRing, replayedFrom, bufferFrom}
 use Rattle.trace.specs.declared.parts.Header.the-variants.{Ready}
-use Rattle.trace.proofs.walk.Laws.{place-within, ready-fits, room-short, room-enough, walk-part, walk-same, walk-stop, rule-runs, rule-fills}
+use Rattle.trace.proofs.walk.Laws.{place-within, ready-fits, buffer-short, buffer-enough, walk-part, walk-same, walk-stop, rule-runs, rule-fills}
 use Rattle.trace.proofs.walk.replay_from.Statement.{statement}
 use Rattle.trace.proofs.walk.replay_from.Tie as tie
 
--- ---- a front that is refused
+-- ---- a header that is refused
 
 returns-2 : tie.Need-returns-2
-unfolding replayedFrom roomFrom
+unfolding replayedFrom bufferFrom
 returns-2 c =
-    let says = sym (c .before .before .before .before .header .ensures) ∙ c .before .before .front .given .1 in
+    let says = sym (c .before .before .before .before .header .ensures) ∙ c .before .before .said .given .1 in
     (rw says (c .refused-replay .ensures), rw says)
 
--- ---- a front that says a set-up
+-- ---- a header that says a set-up
 
 from-within : (c : tie.After-walk-place) → c .walk-place .result ≤ length (c .before .before .before .before .before .before .before .args .bytes .now)
 from-within c = rw (c .walk-place .ensures) (place-within _ _)
 
 returns : tie.Need-returns
-unfolding replayedFrom roomFrom
+unfolding replayedFrom bufferFrom
 returns c =
     let w = c .before .before in
     let a = w .before .before .before .before .before .before .before .args in
-    let says = sym (w .before .before .before .before .header .ensures) ∙ w .before .before .front2 .given .1 in
-    let short = room-short (a .bytes .now) (a .answers .now) (a .at) (w .walk-place .result) (w .walk-place .ensures) (c .before .if1 .taken) in
+    let says = sym (w .before .before .before .before .header .ensures) ∙ w .before .before .said2 .given .1 in
+    let short = buffer-short (a .bytes .now) (a .answers .now) (a .at) (w .walk-place .result) (w .walk-place .ensures) (c .before .if1 .taken) in
     (rw (says, short) (c .refused-replay2 .ensures), rw (says, short))
 
 -- ---- the run
 
--- the bytes, the room and the place that the function is given
+-- the bytes, the buffer and the place that the function is given
 abbrev bytes : tie.After-replay → List ℕ
 bytes c = c .before .before .before .before .before .before .before .before .before .before .before .args .bytes .now
 
-abbrev room : tie.After-replay → List ℕ
-room c = c .before .before .before .before .before .before .before .before .before .before .before .args .answers .now
+abbrev buffer : tie.After-replay → List ℕ
+buffer c = c .before .before .before .before .before .before .before .before .before .before .before .args .answers .now
 
 abbrev place : tie.After-replay → ℕ
 place c = c .before .before .before .before .before .before .before .before .before .before .before .args .at
 
--- the set-up that the front says
+-- the set-up that the header says
 abbrev pages : tie.After-replay → ℕ
-pages c = c .before .before .before .before .before .before .front2 .given .0 .0
+pages c = c .before .before .before .before .before .before .said2 .given .0 .0
 
 abbrev slots : tie.After-replay → ℕ
-slots c = c .before .before .before .before .before .before .front2 .given .0 .1 .0
+slots c = c .before .before .before .before .before .before .said2 .given .0 .1 .0
 
 abbrev mode : tie.After-replay → ℕ
-mode c = c .before .before .before .before .before .before .front2 .given .0 .1 .1 .0
+mode c = c .before .before .before .before .before .before .said2 .given .0 .1 .1 .0
 
 -- what the definition runs
 abbrev left : tie.After-replay → List ℕ
@@ -71,31 +70,31 @@ abbrev from : tie.After-replay → ℕ
 from c = c .before .before .before .before .walk-place .result
 
 says : (c : tie.After-replay) → headerOf (bytes c) ≡ Ready (pages c) (slots c) (mode c)
-says c = sym (c .before .before .before .before .before .before .before .before .header .ensures) ∙ c .before .before .before .before .before .before .front2 .given .1
+says c = sym (c .before .before .before .before .before .before .before .before .header .ensures) ∙ c .before .before .before .before .before .before .said2 .given .1
 
 begins : (c : tie.After-replay) → from c ≡ walkPlace (length (bytes c)) (place c)
 begins c = c .before .before .before .before .walk-place .ensures
 
 part : (c : tie.After-replay) → take (length (bytes c) - from c) (drop (from c) (bytes c)) ≡ left c
-part c = walk-part (bytes c) (room c) (place c) (from c) (begins c)
+part c = walk-part (bytes c) (buffer c) (place c) (from c) (begins c)
 
-enough : (c : tie.After-replay) → roomFits (left c) (room c) ≡ true
-enough c = room-enough (bytes c) (room c) (place c) (from c) (begins c) (c .before .before .before .if1 .left)
+enough : (c : tie.After-replay) → bufferFits (left c) (buffer c) ≡ true
+enough c = buffer-enough (bytes c) (buffer c) (place c) (from c) (begins c) (c .before .before .before .if1 .left)
 
-runs : (c : tie.After-replay) → c .replay .result ≡ ran (frontRing (pages c) (slots c) (mode c)) (decoded (left c))
+runs : (c : tie.After-replay) → replayOutcome (c .replay .result) ≡ ran (headerRing (pages c) (slots c) (mode c)) (decoded (left c))
 runs c =
     c .replay .ensures .0
-    ∙ ap (λ (l : List ℕ). replayRule (pages c) (slots c) (mode c) l (room c)) (part c)
-    ∙ rule-runs (pages c) (slots c) (mode c) (left c) (room c) (ready-fits (bytes c) (says c)) (enough c)
+    ∙ ap (λ (l : List ℕ). replayRule (pages c) (slots c) (mode c) l (buffer c)) (part c)
+    ∙ rule-runs (pages c) (slots c) (mode c) (left c) (buffer c) (ready-fits (bytes c) (says c)) (enough c)
 
-fills : (c : tie.After-replay) → c .replay .last .1 .1 .1 .1 .0 ≡ ranRoom (frontRing (pages c) (slots c) (mode c)) (decoded (left c)) (room c)
+fills : (c : tie.After-replay) → c .replay .last .1 .1 .1 .1 .0 ≡ ranBuffer (headerRing (pages c) (slots c) (mode c)) (decoded (left c)) (buffer c)
 fills c =
     c .replay .ensures .1
-    ∙ ap (λ (l : List ℕ). roomRule (pages c) (slots c) (mode c) l (room c)) (part c)
-    ∙ rule-fills (pages c) (slots c) (mode c) (left c) (room c) (ready-fits (bytes c) (says c)) (enough c)
+    ∙ ap (λ (l : List ℕ). bufferRule (pages c) (slots c) (mode c) l (buffer c)) (part c)
+    ∙ rule-fills (pages c) (slots c) (mode c) (left c) (buffer c) (ready-fits (bytes c) (says c)) (enough c)
 
 same : (c : tie.After-replay) → walkActions (bytes c) (place c) ≡ shifted (from c) (decoded (left c))
-same c = walk-same (bytes c) (room c) (place c) (from c) (begins c)
+same c = walk-same (bytes c) (buffer c) (place c) (from c) (begins c)
 
 bytes-small : (c : tie.After-shared-slice-known) → length (c .before .args .bytes .now) < 2 ^ 64
 bytes-small c = search needs
@@ -103,18 +102,18 @@ bytes-small c = search needs
 told-from-requires : tie.Need-told-from-requires
 told-from-requires c κs =
     let r = c .before .before in
-    let stop = ap (λ (k : Replay). k .stop) (runs r) in
-    omega (arith, stop, walk-stop (bytes r) (room r) (place r) (from r) (begins r), bytes-small (c .before .before .before .before .before .before .before .before .before .before .before .before))
+    let stop = ap (λ (k : ReplayOutcome). k .stop) (runs r) in
+    omega (arith, stop, walk-stop (bytes r) (buffer r) (place r) (from r) (begins r), bytes-small (c .before .before .before .before .before .before .before .before .before .before .before .before))
 
 returns-3 : tie.Need-returns-3
-unfolding replayedFrom roomFrom
+unfolding replayedFrom bufferFrom
 returns-3 c =
     let r = c .before .before .before in
     let whole =
     c .told-from .ensures
-    ∙ ap (λ (k : Replay). toldFrom (length (bytes r)) (from r) k) (runs r)
-    ∙ ap (λ (d : Decoded). walked (length (bytes r)) (frontRing (pages r) (slots r) (mode r)) d) (sym (same r)) in
-    let filled = fills r ∙ ap (λ (d : Decoded). ranRoom (frontRing (pages r) (slots r) (mode r)) d (room r)) (sym (same r)) in
+    ∙ ap (λ (k : ReplayOutcome). toldFrom (length (bytes r)) (from r) k) (runs r)
+    ∙ ap (λ (d : Decoded). walked (length (bytes r)) (headerRing (pages r) (slots r) (mode r)) d) (sym (same r)) in
+    let filled = fills r ∙ ap (λ (d : Decoded). ranBuffer (headerRing (pages r) (slots r) (mode r)) d (buffer r)) (sym (same r)) in
     (rw (says r, enough r) whole, rw (says r, enough r) filled)
 
 pub replay-from-spec : {M : Type 1} → statement M

@@ -22,7 +22,7 @@ fitting : (c : tie.After-layout-fits) → c .before .before .before .before .cou
 fitting c = tested-inShape (stateOf (c .before .before .before .before .before .before .before .before .before .before .before .args .t1)) (c .before .before .before .before .counts-fit .ensures) (c .layout-fits .ensures) (narrow (c .before .before .before .before .before .before .before .before .before .before .before))
 
 returns : tie.Need-returns
-returns c = rw (sym (fitting (c .before)) ∙ not-true _ (c .if1 .taken)) (refl, refl)
+returns c = rw (sym (fitting (c .before)) ∙ not-true _ (c .if1 .taken)) (record { state = refl; last-answer = refl; stored = refl }, refl)
 
 shaped : (c : tie.Else1) → inShape (stateOf (c .before .before .before .before .before .before .before .before .before .before .before .before .args .t1)) ≡ true
 shaped c = sym (fitting (c .before)) ∙ not-false _ (c .if1 .left)

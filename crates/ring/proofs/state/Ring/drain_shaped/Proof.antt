@@ -1,5 +1,5 @@
 -- `Ring::drain_shaped` makes the Reads of a ring in shape. The loop keeps `Progress` (proofs/drain/Laws): a turn stores its pieces and lays its
--- Events, which is the Reads that the definition makes. The measure counts the room that is left, and the Reads before the next Event. Assumes
+-- Events, which is the Reads that the definition makes. The measure counts the buffer that is left, and the Reads before the next Event. Assumes
 -- nothing.
 use mathlib.Core.Path.{_≡_, refl, sym, _∙_, subst}
 use mathlib.Core.Bool.{true}
@@ -12,22 +12,22 @@ use lib.ListN.{length}
 use Rattle.ring.specs.Ring.{stateOf}
 use Rattle.rules.specs.Limits.{slotRoom, mostInRow}
 use Rattle.rules.specs.Shape.{inShape}
-use Rattle.ring.specs.Pieces.{StoresFit}
+use Rattle.ring.specs.Pieces.{StoresPrecondition}
 use Rattle.ring.specs.Turn.{turnOf}
 use Rattle.rules.specs.State.{State}
 use Rattle.ring.specs.declared.turn.Turn.{Turn}
 use Rattle.rules.proofs.Lists.{and-three}
 use Rattle.rules.proofs.shape.Laws.{in-shape}
-use Rattle.ring.proofs.turn.Laws.{Turned, turn-fits, turn-stores, turn-slots}
-use Rattle.ring.proofs.drain.Laws.{Progress, start, room-length, in-order, turn-does, turn-on, finish}
+use Rattle.ring.proofs.turn.Laws.{Turned, turn-precondition, turn-stores, turn-slots}
+use Rattle.ring.proofs.drain.Laws.{Progress, start, buffer-length, in-order, turn-does, turn-on, finish}
 use Rattle.ring.proofs.state.Ring.drain_shaped.Statement.{statement}
 use Rattle.ring.proofs.state.Ring.drain_shaped.Tie as tie
 
 abbrev Inv-loop : tie.InvT-loop
-Inv-loop room₀ self₀ most at₀ left₀ last₀ room self at left last = Progress (stateOf self₀) room₀ (stateOf self) room at left last
+Inv-loop buffer₀ self₀ most at₀ left₀ last₀ buffer self at left last = Progress (stateOf self₀) buffer₀ (stateOf self) buffer at left last
 
 abbrev μ-loop : tie.MeasureT-loop
-μ-loop room₀ self₀ most at₀ left₀ last₀ room self at left last = (most - at) * suc mostInRow + left
+μ-loop buffer₀ self₀ most at₀ left₀ last₀ buffer self at left last = (most - at) * suc mostInRow + left
 
 -- at most one more is handed out than the counts allow
 agrees-requires : tie.Need-agrees-requires Inv-loop μ-loop
@@ -35,8 +35,8 @@ agrees-requires c κs =
     let p = c .before .loop .inv in
     omega (arith, p .agree, in-shape _ (p .shape))
 
-room-small : (c : tie.After-slice-known Inv-loop μ-loop) → length (c .before .args .room .now) < 2 ^ 64
-room-small c = search needs
+buffer-small : (c : tie.After-slice-known Inv-loop μ-loop) → length (c .before .args .buffer .now) < 2 ^ 64
+buffer-small c = search needs
 
 -- ---- a turn: the ring that it starts from, and what the loop's test tells of it
 
@@ -47,16 +47,16 @@ abbrev ring : Turns → State
 ring c = stateOf (c .before .before .before .loop .self)
 
 abbrev most : Turns → ℕ
-most c = length (c .before .before .before .before .before .args .room .now)
+most c = length (c .before .before .before .before .before .args .buffer .now)
 
--- the room is not full, a Read is left, and the counts agree
+-- the buffer is not full, a Read is left, and the counts agree
 test :
     (c : Turns) →
     (ltb (c .before .before .before .loop .at) (most c) ≡ true) × (ltb 0 (c .before .before .before .loop .left) ≡ true) × (c .before .agrees .result ≡ true)
 test c = and-three (ltb (c .before .before .before .loop .at) (most c)) (ltb 0 (c .before .before .before .loop .left)) (c .before .agrees .result) (c .if1 .taken)
 
-room-left : (c : Turns) → c .before .before .before .loop .at < most c
-room-left c = ltb-true _ _ (test c .0)
+buffer-left : (c : Turns) → c .before .before .before .loop .at < most c
+buffer-left c = ltb-true _ _ (test c .0)
 
 reads-left : (c : Turns) → 0 < c .before .before .before .loop .left
 reads-left c = ltb-true _ _ (test c .1)
@@ -67,13 +67,13 @@ agree c = leb-true _ _ (sym (c .before .agrees .ensures) ∙ test c .2)
 ordered : (c : Turns) → inShape (ring c) ≡ true
 ordered c = in-order (c .before .before .before .loop .inv) (agree c)
 
-abbrev room : Turns → ℕ
-room c = most c - c .before .before .before .loop .at
+abbrev buffer : Turns → ℕ
+buffer c = most c - c .before .before .before .loop .at
 
 turn-by-requires : tie.Need-turn-by-requires Inv-loop μ-loop
 turn-by-requires c κs =
     let t = c .before .before .before .before .before .before .before .before .before in
-    turn-fits (ring t) (ordered t) (room t) (t .before .before .before .loop .left) (t .before .before .before .loop .last) (omega (arith, room-left t)) (reads-left t)
+    turn-precondition (ring t) (ordered t) (buffer t) (t .before .before .before .loop .left) (t .before .before .before .loop .last) (omega (arith, buffer-left t)) (reads-left t)
 
 -- ---- the turn that is decided
 
@@ -84,35 +84,35 @@ abbrev turns : Decided → Turns
 turns c = c .before .before .before .before .before .before .before .before .before .before
 
 abbrev decided : Decided → Turn
-decided c = turnOf (ring (turns c)) (turns c .before .before .before .loop .left) (room (turns c))
+decided c = turnOf (ring (turns c)) (turns c .before .before .before .loop .left) (buffer (turns c))
 
 is-turn : (c : Decided) → c .turn-by .result ≡ decided c
 is-turn c = c .turn-by .ensures
 
-does : (c : Decided) → Turned (ring (turns c)) (room (turns c)) (turns c .before .before .before .loop .left) (turns c .before .before .before .loop .last) (c .turn-by .result)
+does : (c : Decided) → Turned (ring (turns c)) (buffer (turns c)) (turns c .before .before .before .loop .left) (turns c .before .before .before .loop .last) (c .turn-by .result)
 does c =
-    subst (λ (t : Turn). Turned (ring (turns c)) (room (turns c)) (turns c .before .before .before .loop .left) (turns c .before .before .before .loop .last) t) (sym (is-turn c))
-    (turn-does (turns c .before .before .before .loop .inv) (room-left (turns c)) (reads-left (turns c)) (agree (turns c)))
+    subst (λ (t : Turn). Turned (ring (turns c)) (buffer (turns c)) (turns c .before .before .before .loop .left) (turns c .before .before .before .loop .last) t) (sym (is-turn c))
+    (turn-does (turns c .before .before .before .loop .inv) (buffer-left (turns c)) (reads-left (turns c)) (agree (turns c)))
 
-stores-fit : (c : Decided) → StoresFit (c .turn-by .result .stores)
-stores-fit c =
+stores-precondition : (c : Decided) → StoresPrecondition (c .turn-by .result .stores)
+stores-precondition c =
     let t = turns c in
-    rw (is-turn c) (turn-stores (ring t) (ordered t) (room t) (t .before .before .before .loop .left) (t .before .before .before .loop .last) (omega (arith, room-left t)) (reads-left t))
+    rw (is-turn c) (turn-stores (ring t) (ordered t) (buffer t) (t .before .before .before .loop .left) (t .before .before .before .loop .last) (omega (arith, buffer-left t)) (reads-left t))
 
 slots-fit : (c : Decided) → c .turn-by .result .from + c .turn-by .result .count ≤ slotRoom
 slots-fit c =
     let t = turns c in
-    rw (is-turn c) (turn-slots (ring t) (ordered t) (room t) (t .before .before .before .loop .left) (t .before .before .before .loop .last) (omega (arith, room-left t)) (reads-left t))
+    rw (is-turn c) (turn-slots (ring t) (ordered t) (buffer t) (t .before .before .before .loop .left) (t .before .before .before .loop .last) (omega (arith, buffer-left t)) (reads-left t))
 
 lay-events-requires : tie.Need-lay-events-requires Inv-loop μ-loop
 lay-events-requires c κs =
     let d = c .before .before .before .before in
-    (omega (arith, does d .count, room-left (turns d), room-length (turns d .before .before .before .loop .inv)), slots-fit d)
+    (omega (arith, does d .count, buffer-left (turns d), buffer-length (turns d .before .before .before .loop .inv)), slots-fit d)
 
 add-at : tie.Need-add-at Inv-loop μ-loop
 add-at c =
     let d = c .before .before .before .before .before .before .before .before .before .before .before .before .before .before .before in
-    omega (arith, does d .count, room-left (turns d), room-small (turns d .before .before .before .before))
+    omega (arith, does d .count, buffer-left (turns d), buffer-small (turns d .before .before .before .before))
 
 loop-less : tie.Need-loop-less Inv-loop μ-loop
 loop-less c =
@@ -123,12 +123,12 @@ loop-again : tie.Need-loop-again Inv-loop μ-loop
 loop-again c =
     let d = c .before .before .before .before .before .before .before .before .before .before .before .before .before .before .before in
     let t = turns d in
-    turn-on (t .before .before .before .loop .inv) (room-left t) (reads-left t) (agree t) (is-turn d)
+    turn-on (t .before .before .before .loop .inv) (buffer-left t) (reads-left t) (agree t) (is-turn d)
     (rw (c .before .store-used .ensures, c .before .before .before .store-words .ensures))
     (c .before .before .before .before .before .before .before .before .before .before .lay-events .ensures)
 
 same-length : tie.Need-same-length Inv-loop μ-loop
-same-length c = room-length (c .before .before .before .before .loop .inv)
+same-length c = buffer-length (c .before .before .before .before .loop .inv)
 
 returns : tie.Need-returns Inv-loop μ-loop
 returns c =
@@ -142,11 +142,11 @@ drain-shaped-spec =
     μ-loop
     (λ c. start _ _ (c .before .pre))
     agrees-requires
-    (λ c. omega (arith, room-left c))
+    (λ c. omega (arith, buffer-left c))
     turn-by-requires
     lay-events-requires
-    (λ c κs. stores-fit (c .before .before .before .before .before .before .before .before .before .before .before))
-    (λ c κs. stores-fit (c .before .before .before .before .before .before .before .before .before .before .before .before .before))
+    (λ c κs. stores-precondition (c .before .before .before .before .before .before .before .before .before .before .before))
+    (λ c κs. stores-precondition (c .before .before .before .before .before .before .before .before .before .before .before .before .before))
     add-at
     loop-less
     loop-again

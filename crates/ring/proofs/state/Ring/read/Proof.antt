@@ -14,12 +14,12 @@ use Rattle.rules.specs.Limits.{mostPages}
 use Rattle.rules.specs.Refusals.{readVerdict}
 use Rattle.rules.specs.Shape.{inShape}
 use Rattle.rules.specs.Read.{planRead, readRule}
-use Rattle.ring.specs.Pieces.{StoresFit, FetchFits}
+use Rattle.ring.specs.Pieces.{StoresPrecondition, FetchPrecondition}
 use Rattle.rules.specs.State.{State}
 use Rattle.ring.specs.declared.pieces.Stores.the-variants.{Same}
 use Rattle.rules.proofs.shape.Laws.{InShape, in-shape, tested-inShape}
 use Rattle.ring.proofs.read.Laws.{allows, plan-fits, event-fits}
-use Rattle.ring.proofs.pieces.Laws.{readLeaves, read-leaves, read-stores-fit, read-stores-same}
+use Rattle.ring.proofs.pieces.Laws.{readLeaves, read-leaves, read-stores-precondition, read-stores-same}
 use Rattle.ring.proofs.state.Ring.read.Statement.{statement}
 use Rattle.ring.proofs.state.Ring.read.Tie as tie
 
@@ -71,7 +71,7 @@ planned : (c : tie.After-plan-reader) → c .plan-reader .result ≡ planRead (g
 planned c = c .plan-reader .ensures
 
 -- it names only what the ring has room for
-planned-fits : (c : tie.After-plan-reader) → FetchFits (c .plan-reader .result)
+planned-fits : (c : tie.After-plan-reader) → FetchPrecondition (c .plan-reader .result)
 planned-fits c = rw (planned c) (plan-fits (given (allowed-at c)) (shaped (allowed-at c)))
 
 -- ---- the pieces
@@ -114,12 +114,12 @@ outcome-left c =
     (c .read-phase .ensures)
     (c .before .before .before .before .read-stores .ensures)
 
-stores-within : (c : tie.After-read-phase) → StoresFit (c .before .before .before .before .read-stores .result)
+stores-within : (c : tie.After-read-phase) → StoresPrecondition (c .before .before .before .before .read-stores .result)
 stores-within c =
     let d = c .before .before .before .before .before .before .before .before .before .before .before in
     let r = given (allowed-at d) in
     rw (c .before .before .before .before .read-stores .ensures)
-    (read-stores-fit (r .places .reader) (r .words) (d .plan-reader .result) (planned-fits d) (omega (arith, shaped (allowed-at d))))
+    (read-stores-precondition (r .places .reader) (r .words) (d .plan-reader .result) (planned-fits d) (omega (arith, shaped (allowed-at d))))
 
 -- ---- the arms
 

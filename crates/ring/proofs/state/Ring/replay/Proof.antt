@@ -1,4 +1,4 @@
--- `Ring::replay` is the rule, by its tests: a set-up that is refused, room that is too short, and else the run from the fresh ring, which is reached by no action.
+-- `Ring::replay` is the rule, by its tests: a set-up that is refused, buffer that is too short, and else the run from the fresh ring, which is reached by no action.
 -- Assumes nothing.
 use mathlib.Core.Path.{_≡_, sym, ap, _∙_}
 use mathlib.Core.Bool.{true}
@@ -12,8 +12,7 @@ use Rattle.rules.specs.Answers.{Outcome}
 use Rattle.rules.specs.Shape.{sizeFits}
 use Rattle.rules.specs.SetUp.{freshRing}
 use Rattle.rules.specs.Actions.{decoded}
-use Rattle.rules.specs.Replay.{ranRoom}
-use Rattle.ring.specs.Replay.{ran}
+use Rattle.rules.specs.Replay.{ranBuffer, ran}
 use Rattle.rules.proofs.runs.Always.{fresh-is}
 use Rattle.ring.proofs.state.Ring.replay.Statement.{statement}
 use Rattle.ring.proofs.state.Ring.replay.Tie as tie
@@ -38,7 +37,7 @@ abbrev start : tie.After-fresh → tie.Start
 start c = c .before .before .before .before .before .before
 
 fresh-ring : (c : tie.After-fresh) → stateOf (c .fresh .result .ring) ≡ freshRing (sizeOf (start c .args .pages) (start c .args .slots) (start c .args .mode))
-fresh-ring c = ap (λ (o : Outcome). o .ring) (c .fresh .ensures) ∙ fresh-is (start c .args .pages) (start c .args .slots) (start c .args .mode) (fits (c .before .before))
+fresh-ring c = ap (λ (o : Outcome). o .state) (c .fresh .ensures) ∙ fresh-is (start c .args .pages) (start c .args .slots) (start c .args .mode) (fits (c .before .before))
 
 run-requires : tie.Need-run-requires
 run-requires c κs = (
@@ -56,7 +55,7 @@ returns-3 c =
     let f = c .before .before .before .before in
     let enough = le-ltb _ _ (f .before .if2 .left) in (
       rw (fits (f .before .before), enough) (c .before .before .run .ensures .0 ∙ ap (λ (r : State). ran r (decoded (start f .args .bytes .now))) (fresh-ring f)),
-      rw (fits (f .before .before), enough) (c .before .before .run .ensures .1 ∙ ap (λ (r : State). ranRoom r (decoded (start f .args .bytes .now)) (start f .args .room .now)) (fresh-ring f)),
+      rw (fits (f .before .before), enough) (c .before .before .run .ensures .1 ∙ ap (λ (r : State). ranBuffer r (decoded (start f .args .bytes .now)) (start f .args .buffer .now)) (fresh-ring f)),
     )
 
 pub replay-spec : {M : Type 1} → statement M

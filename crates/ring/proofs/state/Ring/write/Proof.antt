@@ -15,10 +15,10 @@ use Rattle.rules.specs.State.{top, State}
 use Rattle.rules.specs.Refusals.{writeVerdict}
 use Rattle.rules.specs.Shape.{inShape}
 use Rattle.rules.specs.Write.{planWrite, writeRule}
-use Rattle.ring.specs.Pieces.{StoresFit, MoveFits}
+use Rattle.ring.specs.Pieces.{StoresPrecondition, MovePrecondition}
 use Rattle.rules.proofs.shape.Laws.{InShape, in-shape, tested-inShape}
 use Rattle.ring.proofs.write.Laws.{Allows, allows, top-fits, plan-fits}
-use Rattle.ring.proofs.pieces.Laws.{leaves, write-leaves, stores-fit}
+use Rattle.ring.proofs.pieces.Laws.{leaves, write-leaves, stores-precondition}
 use Rattle.ring.proofs.state.Ring.write.Statement.{statement}
 use Rattle.ring.proofs.state.Ring.write.Tie as tie
 
@@ -77,7 +77,7 @@ planned : (c : tie.After-plan-phase) → c .plan-phase .result ≡ planWrite (gi
 planned c = c .plan-phase .ensures
 
 -- it names only what the ring has room for
-planned-fits : (c : tie.After-plan-phase) → MoveFits (c .plan-phase .result)
+planned-fits : (c : tie.After-plan-phase) → MovePrecondition (c .plan-phase .result)
 planned-fits c = rw (planned c) (plan-fits (given (allowed-at c)) (shaped (allowed-at c)) (allowed (allowed-at c) .somebody))
 
 -- ---- the pieces
@@ -128,12 +128,12 @@ outcome-left c =
     (c .depth-after .ensures)
     (c .before .before .before .before .before .before .before .before .stores-after .ensures)
 
-stores-within : (c : tie.After-depth-after) → StoresFit (c .before .before .before .before .before .before .before .before .stores-after .result)
+stores-within : (c : tie.After-depth-after) → StoresPrecondition (c .before .before .before .before .before .before .before .before .stores-after .result)
 stores-within c =
     let d = c .before .before .before .before .before .before .before .before .before .before .before .before in
     let r = given (allowed-at d) in
     rw (c .before .before .before .before .before .before .before .before .stores-after .ensures)
-    (stores-fit (r .size) (r .counts .taken) (top r .value) (r .words) (shaped (allowed-at d) .slots-most) (d .plan-phase .result) (planned-fits d))
+    (stores-precondition (r .size) (r .counts .taken) (top r .value) (r .words) (shaped (allowed-at d) .slots-most) (d .plan-phase .result) (planned-fits d))
 
 -- ---- the arms
 
