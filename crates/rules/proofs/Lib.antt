@@ -1,4 +1,5 @@
 -- Laws and theorems that belong to no one function. The proof of a function stands in a folder of its own.
+pub mod Limits
 pub mod Lists
 pub mod Cases
 -- demand 3: the invariant, the laws of its parts, what each step does to them, every list of actions, and the theorem

@@ -91,8 +91,9 @@ Stops End = Unit {0}
 -- what holds of the actions from a place on (`decodes`, proofs/actions/Laws): a whole action comes first, where none stands there is none, and they stop where no
 -- whole action stands: at the end of the bytes, or else at "an unknown or cut action"
 pub record Decodes (bytes : List ℕ) (at : ℕ) : Type 0 where
-  pub whole : (a : Action) (next : ℕ) → codedAt bytes at ≡ Whole a next → decodedFrom bytes at ≡ actionFirst a (decodedFrom bytes next)
-  pub none : Stops (codedAt bytes at) → decodedFrom bytes at ≡ stopped at
+  pub whole : (a : Action) (next : ℕ) → codedAt bytes at ≡ Whole a next
+      → decodedFrom bytes at ≡ record { actions = a ∷ decodedFrom bytes next .actions; stop = decodedFrom bytes next .stop }
+  pub none : Stops (codedAt bytes at) → decodedFrom bytes at ≡ record { actions = []; stop = at }
   pub within : at ≤ length bytes → decodedFrom bytes at .stop ≤ length bytes
   pub ended : at ≤ length bytes → decodedFrom bytes at .stop ≡ length bytes → codedAt bytes (decodedFrom bytes at .stop) ≡ End
   pub broken : at ≤ length bytes → (decodedFrom bytes at .stop ≡ length bytes → ⊥) → codedAt bytes (decodedFrom bytes at .stop) ≡ Broken

@@ -1,6 +1,7 @@
 -- The limits of a ring, the sizes of the plain ring, the modes and the flags: each number under one name.
 -- Assumes nothing.
-use Prim.Native.Nat.{ℕ}
+use mathlib.Core.Path.{_≡_}
+use Prim.Native.Nat.{ℕ, _+_, _*_, _^_}
 
 -- "N ring pages, 2 to 16, plus one reader page"
 abbrev pub leastPages : ℕ
@@ -65,3 +66,10 @@ plainSlots = 16
 
 abbrev pub plainMode : ℕ
 plainMode = overwriteMode
+
+-- what the limits have to do with each other, and with the 32 bits of a reading's number
+pub record LimitsAgree : Type 0 where
+  -- the reader page is one page more
+  pub pages : pageRoom ≡ mostPages + 1
+  pub slots : slotRoom ≡ pageRoom * mostSlots
+  pub count : mostCount + 1 ≡ 2 ^ 32

@@ -69,10 +69,12 @@ abbrev pub promoteBy : Search → PageNo → WriterPhase → Move
 promoteBy (At p h) n next = Become next answer.Standing
 promoteBy Nowhere n next = Promote n next
 
--- the look at every page but the reader page, and "n's word becomes HEADER" if it finds none
+-- "no page other than the reader page has a HEADER word": a look at every page, and not at n's word
+abbrev pub promoteLook : Size → Places → PageNo → List ℕ → Search
+promoteLook size places n words = findHeader words (size .pages) (places .reader)
+
 abbrev pub planPromote : Size → Places → PageNo → PageNo → Bool → List ℕ → Move
-planPromote size places t n own words =
-    promoteBy (findHeader words (size .pages) (places .reader)) n (afterPromote t n own)
+planPromote size places t n own words = promoteBy (promoteLook size places n words) n (afterPromote t n own)
 
 -- "CLEAR: t's word, if n UPDATE, becomes n NORMAL. Answer Cleared; PUSH."
 abbrev pub planClear : PageNo → PageNo → List ℕ → Move

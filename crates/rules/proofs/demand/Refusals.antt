@@ -10,7 +10,7 @@ use Rattle.rules.specs.Limits.{mostDepth, mostCount, stopMode, headerFla
 use Rattle.rules.specs.State.{wordAt, usedAt, top, State}
 use Rattle.rules.specs.Words.{pageIn, flagIn, samePage, readerOnCommit, links, findHeader}
 use Rattle.rules.specs.Shape.{inShape}
-use Rattle.rules.specs.Write.{planFull, afterPromote, promoteBy, planPhase, planWrite, moved}
+use Rattle.rules.specs.Write.{planFull, afterPromote, promoteBy, promoteLook, planPhase, planWrite, moved}
 use Rattle.rules.specs.Read.{readLimit, findBy, planReader, planRead, fetched}
 use Rattle.rules.specs.Act.{act}
 use Rattle.rules.specs.Demand.{listed, Sound}
@@ -53,7 +53,7 @@ module _ (s : State) where
   phase-unrefused (phase.Mark t n) =
       by-cond MoveUnrefused (links (s .words) t n headerFlag) (λ e. refl) (λ e.
       by-cond MoveUnrefused (links (s .words) t n updateFlag) (λ e. refl) (λ e. refl))
-  phase-unrefused (phase.Promote t n own) = promote-unrefused (findHeader (s .words) (s .size .pages) (s .places .reader)) n (afterPromote t n own)
+  phase-unrefused (phase.Promote t n own) = promote-unrefused (promoteLook (s .size) (s .places) n (s .words)) n (afterPromote t n own)
   phase-unrefused (phase.Clear t n) = by-cond MoveUnrefused (links (s .words) t n updateFlag) (λ e. refl) (λ e. refl)
   phase-unrefused (phase.Push t n) = by-cond MoveUnrefused (samePage (s .places .tail) t) (λ e. refl) (λ e. refl)
   phase-unrefused (phase.Held p slot) = refl

@@ -9,9 +9,9 @@ use lib.Dec.{eqb, ltb}
 use lib.ListN.{getD, set}
 use Rattle.rules.specs.Limits.{stopMode, headerFlag, updateFlag}
 use Rattle.rules.specs.State.{page, noWriter, wordAt, usedAt, top, setPhase, State}
-use Rattle.rules.specs.Words.{pageIn, flagIn, samePage, readerOnCommit, links, findHeader}
+use Rattle.rules.specs.Words.{pageIn, flagIn, samePage, readerOnCommit, links}
 use Rattle.rules.specs.Shape.{inShape}
-use Rattle.rules.specs.Write.{planFull, planMark, afterPromote, promoteBy, planPromote, planClear, planPush, planFilled, planPhase, mark, moved, writeRule}
+use Rattle.rules.specs.Write.{planFull, planMark, afterPromote, promoteBy, promoteLook, planPromote, planClear, planPush, planFilled, planPhase, mark, moved, writeRule}
 use Rattle.rules.specs.Remember.{History}
 use Rattle.rules.specs.History.{onMarked}
 use Rattle.rules.specs.declared.state.PageNo.{PageNo}
@@ -203,7 +203,7 @@ module _ (x : ℕ) {s : State} {h : History} (g : Invariant s h) (deep : 1 ≤ s
         (bounds-flag (setPhase then s) after-bounds n (nextOf (s .words) n) 1 (omega arith) refl)
 
     promote-next : After (planPromote (s .size) (s .places) (page t) (page n) own (s .words))
-    promote-next = promote-by (findHeader (s .words) (N s) (s .places .reader)) (search-tells (s .words) (N s) (s .places .reader))
+    promote-next = promote-by (promoteLook (s .size) (s .places) (page n) (s .words)) (search-tells (s .words) (N s) (s .places .reader))
 
   -- ---- CLEAR
 
