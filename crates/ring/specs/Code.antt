@@ -1,5 +1,5 @@
 -- Demand 3 of the code: what holds of the answers that a caller is given, and of the receipt. No rule is named in it except through the claim
--- (specs/Demand): a run is made of steps that the functions may return, and its history is told by these steps' own answers.
+-- (the rules' specs/Demand): a run is made of steps that the functions may return, and its history is told by these steps' own answers.
 -- The three promises are parameters here: proofs/demand/Code puts in what the checker proves of `Ring::fresh`, `Ring::act` and `Ring::receipt`.
 -- Assumes nothing.
 use mathlib.Core.Path.{_≡_}
@@ -14,7 +14,7 @@ use Rattle.rules.specs.Demand.{Claim, CompleteClaim, listed}
 use Rattle.rules.specs.declared.state.Action.{Action}
 use Rattle.rules.specs.declared.state.Answer.the-variants.{Accepted}
 use Rattle.rules.specs.declared.state.Receipt.{Receipt}
-use Rattle.ring.specs.Ring.{stateOf, ringOf}
+use Rattle.ring.specs.Ring.{stateOf}
 use Rattle.ring.specs.declared.state.Ring.{Ring}
 use Rattle.ring.specs.declared.state.Step.{Step}
 
@@ -28,7 +28,12 @@ abbrev pub asked : List Made → List Action
 asked [] = []
 asked (m ∷ rest) = m .action ∷ asked rest
 
--- the run that the steps tell: the last ring, and the history of their answers
+-- the ring that the last call returned
+abbrev pub ringAfter : Ring → List Made → Ring
+ringAfter r [] = r
+ringAfter r (m ∷ rest) = ringAfter (m .step .ring) rest
+
+-- the run that the steps tell: the state of the last ring, and the history of their answers
 abbrev pub runTold : Run → List Made → Run
 runTold r [] = r
 runTold r (m ∷ rest) =
@@ -49,13 +54,14 @@ module _ (FreshGives : ℕ → ℕ → ℕ → Step → Type 0) (ActGives : Ring
   Follow r [] = Unit {0}
   Follow r (m ∷ rest) = ActGives r (m .action) (m .step) × Follow (m .step .ring) rest
 
-  -- the whole claim of specs/Demand, of the receipt c that was given and of whatever call comes next
-  pub record CodeClaim (c : Receipt) (r : Run) : Type 0 where
+  -- the whole claim of the rules' specs/Demand, of the ring that the last call returned, the receipt c that was given, and whatever call comes next
+  pub record CodeClaim (last : Ring) (c : Receipt) (r : Run) : Type 0 where
+    pub now : stateOf last ≡ r .now
     pub demand : Claim c r
     pub complete : CompleteClaim c r
-    pub shape : inShape (r .now) ≡ true
-    pub refusals : (a : Action) (s : Step) → ActGives (ringOf (r .now)) a s → told (s .answer) .refusal ≡ listed (r .now) a
-    pub same : (a : Action) (s : Step) → ActGives (ringOf (r .now)) a s → listed (r .now) a ≢ 0 → stateOf (s .ring) ≡ r .now
+    pub shape : inShape (stateOf last) ≡ true
+    pub refusals : (a : Action) (s : Step) → ActGives last a s → told (s .answer) .refusal ≡ listed (stateOf last) a
+    pub same : (a : Action) (s : Step) → ActGives last a s → listed (stateOf last) a ≢ 0 → stateOf (s .ring) ≡ stateOf last
     pub receipt : c .refusal ≡ 0
 
   -- for every accepted set-up, every list of calls, and the receipt of the ring that the last one returned
@@ -67,8 +73,8 @@ module _ (FreshGives : ℕ → ℕ → ℕ → Step → Type 0) (ActGives : Ring
       (made : List Made) →
       Follow (first .ring) made →
       (c : Receipt) →
-      ReceiptGives (ringOf (runFrom first made .now)) c →
-      CodeClaim c (runFrom first made)
+      ReceiptGives (ringAfter (first .ring) made) c →
+      CodeClaim (ringAfter (first .ring) made) c (runFrom first made)
 
   -- such runs there are: for every set-up and every list of actions, steps and a receipt that the functions may return
   pub record Runs (pages slots mode : ℕ) (actions : List Action) : Type 0 where
@@ -78,7 +84,7 @@ module _ (FreshGives : ℕ → ℕ → ℕ → Step → Type 0) (ActGives : Ring
     pub all : asked made ≡ actions
     pub follow : Follow (first .ring) made
     pub receipt : Receipt
-    pub given : ReceiptGives (ringOf (runFrom first made .now)) receipt
+    pub given : ReceiptGives (ringAfter (first .ring) made) receipt
 
   abbrev pub CodeRuns : Type 0
   CodeRuns = (pages slots mode : ℕ) (actions : List Action) → Runs pages slots mode actions

@@ -10,22 +10,6 @@ abbrev pub stateOf : Ring → State
 stateOf r =
     stateWith (r .size) (r .places) (r .counts) (r .depth) (r .reader) (r .stack) (r .words) (r .used) (r .numbers) (r .values)
 
--- the ring that is a state. Its arrays are of the state's lengths: those of the code's rings have their own.
-abbrev pub ringOf : State → Ring
-ringOf s =
-    record {
-      size = s .size;
-      places = s .places;
-      counts = s .counts;
-      depth = s .depth;
-      reader = s .reader;
-      stack = s .stack;
-      words = s .words;
-      used = s .used;
-      numbers = s .numbers;
-      values = s .values;
-    }
-
 -- the outcome that a step of the code is
 abbrev pub outcome : Step → Outcome
 outcome s = gives (s .answer) (stateOf (s .ring))

@@ -2,7 +2,7 @@
 -- of the same Reads made singly." A `DrainOutcome` is what some Reads leave; `drainReads` makes them, in rows; `drainRule` is the call.
 -- Assumes nothing.
 use mathlib.Core.Path.{_≡_}
-use mathlib.Core.Bool.{cond}
+use mathlib.Core.Bool.{false, cond}
 use mathlib.Core.List.{List, [], _∷_}
 use Prim.Native.Nat.{ℕ, zero, suc, _+_, _*_, _^_, _≤_}
 use lib.ListN.{replicate}
@@ -121,13 +121,14 @@ abbrev pub lastOf : Last → List Answer → Last
 lastOf last [] = last
 lastOf last (a ∷ rest) = lastOf (Given a) rest
 
--- "the same Reads made singly": so many Reads, one after the other on the ring r, leave what a drain leaves (`drain-singly`, proofs/drain/Singly).
--- On a ring out of shape it is the one Read that gets 1.
+-- "the same Reads made singly": so many Reads, one after the other on the ring r, leave what a drain leaves (`drain-singly`, proofs/drain/Singly)
 pub record Singly (r : State) (d : DrainOutcome) : Type 0 where
   pub reads : ℕ
   pub state : d .state ≡ stateAfter r (replicate reads Read)
   pub events : d .events ≡ eventsAmong (answersOf r (replicate reads Read))
   pub last : d .last ≡ lastOf None (answersOf r (replicate reads Read))
+  -- "A ring out of shape gets 1, whatever the buffer's length": the one Read that gets it
+  pub refused : inShape r ≡ false → reads ≡ 1
 
 -- ---- that eight in a row never end a drain of a ring that is reached from a fresh one
 

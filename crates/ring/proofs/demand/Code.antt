@@ -6,10 +6,13 @@ use mathlib.Core.Path.{_≡_, refl, sym, ap, _∙_, subst}
 use mathlib.Core.List.{List, [], _∷_}
 use Prim.Native.Nat.{ℕ}
 use Rattle.rules.specs.Answers.{Outcome}
-use Rattle.ring.specs.Ring.{stateOf, ringOf, outcome}
+use Rattle.rules.specs.State.{State}
+use Rattle.rules.specs.Receipt.{receiptRule}
+use Rattle.rules.specs.Remember.{History}
+use Rattle.ring.specs.Ring.{stateOf, outcome}
 use Rattle.rules.specs.History.{Run, after, runOf, nothing, recall, valueIn}
-use Rattle.rules.specs.Demand.{Claim, CompleteClaim, RunClaim}
-use Rattle.ring.specs.Code.{Made, asked, runTold, runFrom, Follow, CodeDemand3}
+use Rattle.rules.specs.Demand.{Claim, CompleteClaim, Sound, RunClaim}
+use Rattle.ring.specs.Code.{Made, asked, ringAfter, runTold, runFrom, Follow, CodeDemand3}
 use Rattle.rules.specs.declared.state.Action.{Action}
 use Rattle.rules.specs.declared.state.Receipt.{Receipt}
 use Rattle.ring.specs.declared.state.Ring.{Ring}
@@ -32,29 +35,45 @@ ReceiptGives r c = receipt-promise.Learnt tt (r, tt) c (r, tt)
 
 -- ---- the run of the code is the run of the rules
 
+abbrev run : State → History → Run
+run now past = record { now = now; past = past }
+
 -- the run that goes on by an outcome of action a
 abbrev by : Run → Action → Outcome → Run
-by r a o = record { now = o .state; past = recall (valueIn a) (r .now) (o .answer) (r .past) }
+by r a o = run (o .state) (recall (valueIn a) (r .now) (o .answer) (r .past))
 
-told-after : (r : Run) (made : List Made) → Follow FreshGives ActGives ReceiptGives (ringOf (r .now)) made → runTold r made ≡ after r (asked made)
-told-after r [] f = refl
-told-after r (m ∷ rest) f =
-    told-after (by r (m .action) (outcome (m .step))) rest (f .1)
-    ∙ ap (λ (o : Outcome). after (by r (m .action) o) (asked rest)) (f .0)
+-- it ends in the state of the last ring
+last-told : (r : Ring) (past : History) (made : List Made) → stateOf (ringAfter r made) ≡ runTold (run (stateOf r) past) made .now
+last-told r past [] = refl
+last-told r past (m ∷ rest) = last-told (m .step .ring) (by (run (stateOf r) past) (m .action) (outcome (m .step)) .past) rest
+
+told-after :
+    (r : Ring) (past : History) (made : List Made) →
+    Follow FreshGives ActGives ReceiptGives r made →
+    runTold (run (stateOf r) past) made ≡ after (run (stateOf r) past) (asked made)
+told-after r past [] f = refl
+told-after r past (m ∷ rest) f =
+    let here = run (stateOf r) past in
+    told-after (m .step .ring) (by here (m .action) (outcome (m .step)) .past) rest (f .1)
+    ∙ ap (λ (o : Outcome). after (by here (m .action) o) (asked rest)) (f .0)
 
 pub code-demand-3 : CodeDemand3 FreshGives ActGives ReceiptGives
 code-demand-3 pages slots mode first given accepted made follows c receipt =
     let r = runFrom first made in
+    let last = ringAfter (first .ring) made in
+    let now = last-told (first .ring) nothing made in
     let ruled : r ≡ runOf pages slots mode (asked made) =
-    told-after (record { now = stateOf (first .ring); past = nothing }) made follows
-    ∙ ap (λ (o : Outcome). after (record { now = o .state; past = nothing }) (asked made)) given in
+    told-after (first .ring) nothing made follows ∙ ap (λ (o : Outcome). after (run (o .state) nothing) (asked made)) given in
     let rulesAccept = sym (ap (λ (o : Outcome). o .answer) given) ∙ accepted in
     let whole : RunClaim r = subst RunClaim (sym ruled) (demand-3 pages slots mode rulesAccept (asked made)) in
+    let sound : Sound (stateOf last) = subst Sound (sym now) (whole .sound) in
+    let its : c ≡ receiptRule (r .now) = receipt ∙ ap receiptRule now in
     record {
-      demand = subst (λ (c : Receipt). Claim c r) (sym receipt) (whole .demand);
-      complete = subst (λ (c : Receipt). CompleteClaim c r) (sym receipt) (whole .complete);
-      shape = whole .sound .shape;
-      refusals = λ a s gives. ap (λ (o : Outcome). o .tells .refusal) gives ∙ whole .sound .refusals a;
-      same = λ a s gives refused. ap (λ (o : Outcome). o .state) gives ∙ whole .sound .same a refused;
-      receipt = ap (λ (c : Receipt). c .refusal) receipt ∙ whole .sound .receipt;
+      now = now;
+      demand = subst (λ (c : Receipt). Claim c r) (sym its) (whole .demand);
+      complete = subst (λ (c : Receipt). CompleteClaim c r) (sym its) (whole .complete);
+      shape = sound .shape;
+      refusals = λ a s gives. ap (λ (o : Outcome). o .tells .refusal) gives ∙ sound .refusals a;
+      same = λ a s gives refused. ap (λ (o : Outcome). o .state) gives ∙ sound .same a refused;
+      receipt = ap (λ (c : Receipt). c .refusal) receipt ∙ sound .receipt;
     }

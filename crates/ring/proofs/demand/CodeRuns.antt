@@ -6,7 +6,8 @@ use mathlib.Core.List.{List, [], _∷_}
 use Prim.Native.Nat.{ℕ}
 use Rattle.rules.specs.State.{sizeOf, State}
 use Rattle.rules.specs.Answers.{Outcome, gives}
-use Rattle.ring.specs.Ring.{ringOf, outcome}
+use Rattle.ring.specs.Ring.{stateOf, outcome}
+use Rattle.ring.proofs.Representation.{ringOf}
 use Rattle.rules.specs.Refusals.{beginVerdict, writeVerdict, readVerdict, setUpVerdict, judged}
 use Rattle.rules.specs.Shape.{sizeFits, inShape}
 use Rattle.rules.specs.SetUp.{freshRing, plainRing, freshRule}
@@ -15,7 +16,7 @@ use Rattle.rules.specs.Write.{planWrite, moved}
 use Rattle.rules.specs.Read.{planRead, fetched}
 use Rattle.rules.specs.Act.{act}
 use Rattle.rules.specs.Receipt.{receiptRule}
-use Rattle.ring.specs.Code.{Made, asked, runFrom, Follow, CodeRuns}
+use Rattle.ring.specs.Code.{Made, asked, ringAfter, Follow, CodeRuns}
 use Rattle.rules.specs.declared.state.Action.{Action}
 use Rattle.rules.specs.declared.state.Action.the-variants.{Begin, Write, Read}
 use Rattle.rules.specs.declared.state.Answer.the-variants.{Accepted}
@@ -93,6 +94,6 @@ code-runs pages slots mode actions =
       made = makes (o .state) actions;
       all = makes-asked (o .state) actions;
       follow = makes-follow (o .state) actions;
-      receipt = receiptRule (runFrom (stepOf o) (makes (o .state) actions) .now);
+      receipt = receiptRule (stateOf (ringAfter (stepOf o .ring) (makes (o .state) actions)));
       given = refl;
     }

@@ -17,7 +17,7 @@ use Rattle.rules.specs.Replay.{over}
 use Rattle.rules.specs.Limits.{mostInRow}
 use Rattle.rules.specs.Drain.{DrainOutcome, drainEnds, drainReads}
 use Rattle.ring.specs.Turn.{eventsFrom, lastAfter, turnOf, turned}
-use Rattle.ring.specs.Ring.{ringOf}
+use Rattle.ring.proofs.Representation.{ringOf}
 use Rattle.ring.specs.Drain.{Counted, bufferAfter}
 use Rattle.rules.specs.declared.state.Last.{Last}
 use Rattle.rules.specs.declared.state.Last.the-variants.{None}

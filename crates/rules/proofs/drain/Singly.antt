@@ -1,8 +1,8 @@
 -- A drain is so many Reads made singly, one after the other, by the action itself: its ring, its events and its last answer are theirs
 -- (`drain-singly`). So the ring that it leaves is reached where the one that it was given is (`drain-reached`), and what is proved of every list
 -- of actions holds of runs with drains among them. By the definition's own recursion. Assumes nothing.
-use mathlib.Core.Path.{_≡_, refl, ap}
-use mathlib.Core.Bool.{false}
+use mathlib.Core.Path.{_≡_, refl, sym, ap, _∙_}
+use mathlib.Core.Bool.{false, true≢false}
 use mathlib.Core.List.{List, [], _∷_}
 use Prim.Native.Nat.{ℕ, zero, suc}
 use lib.ListN.{replicate}
@@ -80,18 +80,17 @@ refused-made r e =
       last-is = ap (λ (o : Outcome). Given (o .answer)) (refused r e);
     }
 
-rule-made : (r : State) (space : ℕ) → From r None (drainRule r space)
-rule-made r space =
-    by-bool (inShape r)
-    (λ e. rw e (drained-made mostInRow space r None))
-    (λ e. rw e (refused-made r e))
+singly : {r : State} {d : DrainOutcome} (m : From r None d) → (inShape r ≡ false → m .count ≡ 1) → Singly r d
+singly m one = record { reads = m .count; state = m .state; events = m .events; last = m .last-is; refused = one }
 
 pub drain-singly : (r : State) (space : ℕ) → Singly r (drainRule r space)
+unfolding refused-made
 drain-singly r space =
-    let m = rule-made r space in
-    record { reads = m .count; state = m .state; events = m .events; last = m .last-is }
+    by-bool (inShape r)
+    (λ e. rw e (singly (drained-made mostInRow space r None) (λ f. absurd (true≢false (sym e ∙ f)))))
+    (λ e. rw e (singly (refused-made r e) (λ f. refl)))
 
 pub drain-reached : (r : State) (space : ℕ) → Reached r → Reached (drainRule r space .state)
 drain-reached r space h =
-    let m = rule-made r space in
-    rw (m .state) (reached-more r h (reads (m .count)))
+    let m = drain-singly r space in
+    rw (m .state) (reached-more r h (reads (m .reads)))

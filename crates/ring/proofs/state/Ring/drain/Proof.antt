@@ -49,7 +49,8 @@ use denote.Triple.Table.{entered, cited}
 use denote.Triple.Walked.{says, Stays, stay-dropped, walkOf, goes-dropped, goes-spent-slice, Walks, ends-at, walked, walk-meets}
 use denote.Exit.{yes, no}
 use Rattle.rules.specs.Drain.{DrainOutcome, drainRule}
-use Rattle.ring.specs.Ring.{stateOf, ringOf}
+use Rattle.ring.specs.Ring.{stateOf}
+use Rattle.ring.proofs.Representation.{ringOf}
 use Rattle.ring.specs.Drain.{Counted, bufferAfter}
 use Rattle.ring.proofs.drain.Laws.{drainCount, counted-is}
 use Rattle.ring.specs.declared.state.Ring.{Ring}
