@@ -23,14 +23,14 @@ extern "C" {
     fn bench_by_methods(actions: u32) -> u64;
     fn bench_by_act(actions: u32) -> u64;
     /// The same crate: the replay of a trace, with three numbers for each answer; how many actions it made.
-    fn bench_replay(bytes: *const u8, length: usize, answers: *mut u64, room: usize) -> usize;
+    fn bench_replay(bytes: *const u8, length: usize, answers: *mut u64, for_answers: usize) -> usize;
     /// The same crate: the ring that a trace leaves, drained so many times, each time as the trace left it; how many elements a drain filled.
     fn bench_drain(
         bytes: *const u8,
         length: usize,
         answers: *mut u64,
         for_answers: usize,
-        room: *mut u64,
+        buffer: *mut u64,
         for_events: usize,
         turns: u32,
     ) -> usize;
@@ -41,7 +41,7 @@ const ROUNDS: usize = 15;
 /// How often the trace is replayed in a round.
 const TURNS: usize = 60;
 /// How many elements a drain is lent: more than a full ring has readings.
-const ROOM: usize = 300;
+const ELEMENTS: usize = 300;
 
 /// A Write while a writer is at work, then Reads until nothing waits, then a Begin.
 fn next_action(ring: &Ring, value: u32) -> Action {
@@ -152,16 +152,16 @@ fn ring_of(bytes: &[u8]) -> Ring {
     ring
 }
 
-/// A loop of Reads until the room is full or there is no more to be had, with no limit of eight; how many Events it stored, and how many Reads it
+/// A loop of Reads until the buffer is full or there is no more to be had, with no limit of eight; how many Events it stored, and how many Reads it
 /// made.
 #[inline]
-fn read_out(ring: &mut Ring, room: &mut [u64], act: impl Fn(&mut Ring, Action) -> Answer) -> (usize, usize) {
+fn read_out(ring: &mut Ring, buffer: &mut [u64], act: impl Fn(&mut Ring, Action) -> Answer) -> (usize, usize) {
     let (mut filled, mut reads) = (0, 0);
-    while filled < room.len() {
+    while filled < buffer.len() {
         reads += 1;
         match act(ring, Action::Read) {
             Answer::Event(number, value) => {
-                room[filled] = u64::from(number) << 32 | u64::from(value);
+                buffer[filled] = u64::from(number) << 32 | u64::from(value);
                 filled += 1;
             }
             Answer::Empty | Answer::Busy | Answer::Refused(_) => break,
@@ -172,11 +172,11 @@ fn read_out(ring: &mut Ring, room: &mut [u64], act: impl Fn(&mut Ring, Action) -
 }
 
 /// The Rust loop on a copy of the ring, so many times.
-fn drain_rust(ring: &Ring, room: &mut [u64], turns: u32, act: impl Fn(&mut Ring, Action) -> Answer + Copy) -> usize {
+fn drain_rust(ring: &Ring, buffer: &mut [u64], turns: u32, act: impl Fn(&mut Ring, Action) -> Answer + Copy) -> usize {
     let mut filled = 0;
     for _ in 0..turns {
         let mut copy = black_box(ring).clone();
-        filled = read_out(&mut copy, black_box(room), act).0;
+        filled = read_out(&mut copy, black_box(buffer), act).0;
         black_box(&copy);
     }
     filled
@@ -219,34 +219,34 @@ fn replay_row(name: &'static str, run: fn(&[u8], &mut [u64]) -> usize) -> Row {
 fn drain_rows(readings: u32, turns: u32) -> Vec<Row> {
     let bytes = waiting_trace(readings);
     let ring = ring_of(&bytes);
-    let (_, reads) = read_out(&mut ring.clone(), &mut vec![0; ROOM], Ring::act);
+    let (_, reads) = read_out(&mut ring.clone(), &mut vec![0; ELEMENTS], Ring::act);
     let made = reads * turns as usize;
     let drained = |name, drain: Box<dyn Fn(&mut [u64]) -> usize>| {
         row(name, move || {
-            let mut room = vec![u64::MAX; ROOM];
-            let filled = drain(&mut room);
-            room.push(filled as u64);
-            (room, made)
+            let mut buffer = vec![u64::MAX; ELEMENTS];
+            let filled = drain(&mut buffer);
+            buffer.push(filled as u64);
+            (buffer, made)
         })
     };
     let (untested, tested) = (ring.clone(), ring);
     vec![
         drained(
             "Rust, in place, no test of shape",
-            Box::new(move |room| drain_rust(&untested, room, turns, Ring::act_in_shape)),
+            Box::new(move |buffer| drain_rust(&untested, buffer, turns, Ring::act_in_shape)),
         ),
         drained(
             "Rust, in place, shape tested",
-            Box::new(move |room| drain_rust(&tested, room, turns, Ring::act)),
+            Box::new(move |buffer| drain_rust(&tested, buffer, turns, Ring::act)),
         ),
         drained(
             "Rattle, Ring::drain_into",
-            Box::new(move |room| drain_rattle(&bytes, room, turns)),
+            Box::new(move |buffer| drain_rattle(&bytes, buffer, turns)),
         ),
     ]
 }
 
-fn drain_rattle(bytes: &[u8], room: &mut [u64], turns: u32) -> usize {
+fn drain_rattle(bytes: &[u8], buffer: &mut [u64], turns: u32) -> usize {
     let mut answers = vec![0; 3 * bytes.len()];
     // SAFETY: a function of three slices and a number, proved for every content of them; no two overlap.
     unsafe {
@@ -255,8 +255,8 @@ fn drain_rattle(bytes: &[u8], room: &mut [u64], turns: u32) -> usize {
             bytes.len(),
             answers.as_mut_ptr(),
             answers.len(),
-            room.as_mut_ptr(),
-            room.len(),
+            buffer.as_mut_ptr(),
+            buffer.len(),
             turns,
         )
     }
