@@ -19,26 +19,43 @@ Inv-loop bytes answers buffer₀ turns ring made₀ i₀ buffer made i = (buffer
 abbrev μ-loop : tie.MeasureT-loop
 μ-loop bytes answers buffer₀ turns ring made₀ i₀ buffer made i = turns - i
 
+-- where the first drain is made, where the trace is replayed, and where the function starts
+abbrev Loop : Type 0
+Loop = tie.At-loop Inv-loop μ-loop
+
+abbrev drained-at : Loop → tie.After-drain-into Inv-loop μ-loop
+drained-at l = l .before .before .before
+
+abbrev replayed-at : Loop → tie.After-replay Inv-loop μ-loop
+replayed-at l = drained-at l .before .before .before .before .before
+
+abbrev start : Loop → tie.Start Inv-loop μ-loop
+start l = replayed-at l .before .before .before .before .before
+
 loop-again : tie.Need-loop-again Inv-loop μ-loop
 loop-again c =
-    let first = c .before .before .before .before .before .before .before .before .drain-into in
-    let start = c .before .before .before .before .before .before .before .before .before .before .before .before .before .before .before .before .before .before .args .buffer .now in
-    let l = c .before .before .before .before .before .loop in
-    let same = again (stateOf (c .before .before .before .before .before .before .before .before .before .before .before .before .before .replay .result .ring)) start {made = l .made} (subst (Counted _) (sym (l .inv .1)) (first .ensures .0)) (l .inv .0 ∙ first .ensures .1) (ap length (l .inv .0) ∙ first .kept .1 .0)
-    (c .before .before .drain-into2 .ensures .0) (c .before .before .drain-into2 .ensures .1) in
-    (same .0 ∙ l .inv .0, same .1 ∙ l .inv .1)
+    let l = c .before .before .before .before .before in
+    let inv = l .loop .inv in
+    let first = drained-at l .drain-into in
+    let second = c .before .before .drain-into2 .ensures in
+    let same =
+    again (stateOf (replayed-at l .replay .result .ring)) (start l .args .buffer .now) {made = l .loop .made}
+    (subst (Counted _) (sym (inv .1)) (first .ensures .0)) (inv .0 ∙ first .ensures .1) (ap length (inv .0) ∙ first .kept .1 .0) (second .0) (second .1) in
+    (same .0 ∙ inv .0, same .1 ∙ inv .1)
 
 same-length-2 : tie.Need-same-length-2 Inv-loop μ-loop
-same-length-2 c = ap length (c .before .loop .inv .0) ∙ c .before .before .before .before .drain-into .kept .1 .0
+same-length-2 c = ap length (c .before .loop .inv .0) ∙ drained-at (c .before) .drain-into .kept .1 .0
 
 returns : tie.Need-returns Inv-loop μ-loop
 returns c =
-    let first = c .before .before .before .before .drain-into in
-    let l = c .before .loop in
-    let start = c .before .before .before .before .before .before .before .before .before .before .before .before .before .before .args .buffer .now in
-    let ring = c .before .before .before .before .before .before .before .before .before .replay .ensures .0 in (
-      ap (λ (f : DrainCount). f .count) (l .inv .1) ∙ first .ensures .0 .stored ∙ ap (λ (r : ReplayOutcome). length (drainRule (r .state) (length start) .events)) ring,
-      (c .before .before .before .before .before .before .before .before .before .replay .ensures .1, l .inv .0 ∙ first .ensures .1 ∙ ap (λ (r : ReplayOutcome). bufferAfter (drainRule (r .state) (length start)) start) ring),
+    let l = c .before in
+    let inv = l .loop .inv in
+    let first = drained-at l .drain-into .ensures in
+    let replay = replayed-at l .replay .ensures in
+    let buffer = start l .args .buffer .now in (
+      ap (λ (f : DrainCount). f .count) (inv .1) ∙ first .0 .stored
+          ∙ ap (λ (r : ReplayOutcome). length (drainRule (r .state) (length buffer) .events)) (replay .0),
+      (replay .1, inv .0 ∙ first .1 ∙ ap (λ (r : ReplayOutcome). bufferAfter (drainRule (r .state) (length buffer)) buffer) (replay .0)),
     )
 
 pub bench-drain-spec : {M : Type 1} → statement M
@@ -51,7 +68,7 @@ bench-drain-spec =
     (λ c κs. search needs)
     (λ c. (refl, refl))
     (λ c κs. search needs)
-    (λ c. omega (arith, c .before .before .before .before .before .before .before .before .before .before .before .before .before .before .before .before .before .before .fits .turns))
+    (λ c. omega (arith, start (c .before .before .before .before .before) .fits .turns))
     (λ c. search needs)
     loop-again
     (λ c. search needs)

@@ -3,12 +3,16 @@ use borrow.Author.Needs.{needs}
 use Rattle.ring.proofs.change.moved_change.Statement.{statement}
 use Rattle.ring.proofs.change.moved_change.Tie as tie
 
+abbrev start : tie.After-counts-after → tie.Start
+start c = c .before .before .before .before .before .before
+
 returns : tie.Need-returns
 returns c =
+    let answered = c .before .before .before .before .before .before in
     rw (
       c .before .before .before .before .before .answer-numbers .ensures,
-      c .before .before .before .before .before .before .answer-after .ensures,
-      c .before .before .before .before .before .before .before .top-at .ensures,
+      answered .answer-after .ensures,
+      answered .before .top-at .ensures,
       c .before .before .before .record-after .ensures,
       c .before .before .counts-after .ensures,
       c .before .places-after .ensures,
@@ -28,6 +32,6 @@ moved-change-spec =
     (λ c κs.
     let p = c .before .before .before .before .before .pre in
     (p .move, p .taken, p .overwritten, p .dropped))
-    (λ c κs. c .before .before .before .before .before .before .pre .tail)
-    (λ c κs. c .before .before .before .before .before .before .before .pre .somebody)
+    (λ c κs. start c .pre .tail)
+    (λ c κs. start (c .before) .pre .somebody)
     returns)

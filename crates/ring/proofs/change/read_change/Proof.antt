@@ -6,15 +6,16 @@ use Rattle.ring.proofs.change.read_change.Tie as tie
 
 returns : tie.Need-returns
 returns c =
+    let answered = c .before .before .before .before .before in
     rw (
       c .before .before .before .before .answer-numbers .ensures,
-      c .before .before .before .before .before .read-answer .ensures,
-      c .before .before .before .before .before .before .before .top-at .ensures,
+      answered .read-answer .ensures,
+      answered .before .before .top-at .ensures,
       c .before .before .read-handed .ensures,
       c .before .read-places .ensures,
       c .read-phase .ensures,
       c .before .before .before .read-stores .ensures,
-      c .before .before .before .before .before .before .plan-reader .ensures,
+      answered .before .plan-reader .ensures,
     )
 
 pub read-change-spec : {M : Type 1} → statement M

@@ -21,33 +21,41 @@ read-answer-requires c κs =
     rw (c .places-before .ensures, c .before .before .event-count .ensures, c .before .before .before .plan-reader .ensures)
     (c .before .before .before .before .pre .event)
 
+-- where the Events are counted, and where the function starts
+abbrev counted-at : tie.After-struct-known → tie.After-event-count
+counted-at c = c .before .before .before .before .before
+
+abbrev start : tie.After-struct-known → tie.Start
+start c = counted-at c .before .before
+
 add-handed : tie.Need-add-handed
 add-handed c =
-    let fits = c .before .before .before .before .before .before .before .pre .events in
-    omega (arith, few (c .before .before .before .before .before), fits .agree, fits .committed)
+    let fits = start c .pre .events in
+    omega (arith, few (counted-at c), fits .agree, fits .committed)
 
 read-places-requires : tie.Need-read-places-requires
-read-places-requires c κs =
-    let before = c .before .before .before in
-    rw (before .places-before .ensures) (omega (arith, few (before .before .before)))
+read-places-requires c κs = rw (c .before .before .before .places-before .ensures) (omega (arith, few (counted-at c)))
 
 read-stores-requires : tie.Need-read-stores-requires
 read-stores-requires c κs =
-    let start = c .before .before .before .before .before .before .before .before .before in
-    rw (c .before .before .before .before .before .before .before .before .plan-reader .ensures) (start .pre .fetch, start .pre .page)
+    let k = c .before .before in
+    rw (counted-at k .before .plan-reader .ensures) (start k .pre .fetch, start k .pre .page)
 
+-- (`let`s, not the names above: `rw` would reach into the argument of a name.)
 returns : tie.Need-returns
 returns c =
+    let k = c .before .before .before in
+    let counted = k .before .before .before .before .before in
     rw (
       c .read-stores .ensures,
       c .before .read-phase .ensures,
       c .before .before .read-places .ensures,
-      c .before .before .before .before .left-after .ensures,
-      c .before .before .before .before .before .read-answer .ensures,
-      c .before .before .before .before .before .before .places-before .ensures,
-      c .before .before .before .before .before .before .before .slot-index .ensures,
-      c .before .before .before .before .before .before .before .before .event-count .ensures,
-      c .before .before .before .before .before .before .before .before .before .plan-reader .ensures,
+      k .before .left-after .ensures,
+      k .before .before .read-answer .ensures,
+      k .before .before .before .places-before .ensures,
+      k .before .before .before .before .slot-index .ensures,
+      counted .event-count .ensures,
+      counted .before .plan-reader .ensures,
     )
 
 pub turn-by-spec : {M : Type 1} → statement M

@@ -4,40 +4,34 @@ use mathlib.Core.Path.{refl, sym, _∙_}
 use native.Mathlib.Omega.{arith}
 use borrow.Author.Needs.{needs}
 use lib.ListN.{length}
-use Rattle.trace.proofs.encode.Laws.{small, header-fits}
+use Rattle.trace.proofs.encode.Laws.{Small, small, HeaderFits, header-fits}
 use Rattle.trace.proofs.encode.put_header.Statement.{statement}
 use Rattle.trace.proofs.encode.put_header.Tie as tie
 
-cast-store-header : tie.Need-cast-store-header
-cast-store-header c =
-    let a = c .before .before .before .before .before .before .args in
-    let p = header-fits (length (a .out .now)) (a .pages) (a .slots) (a .mode) (sym (c .before .before .before .before .header-place .ensures) ∙ c .before .before .place .given .1) in
-    let s = small (a .pages) (a .slots) (a .mode) (p .accepted) in
-    omega arith
+abbrev start : tie.After-header-place → tie.Start
+start c = c .before .before
 
-cast-store-header-2 : tie.Need-cast-store-header-2
-cast-store-header-2 c =
-    let a = c .before .before .before .before .before .before .args in
-    let p = header-fits (length (a .out .now)) (a .pages) (a .slots) (a .mode) (sym (c .before .before .before .before .header-place .ensures) ∙ c .before .before .place .given .1) in
-    let s = small (a .pages) (a .slots) (a .mode) (p .accepted) in
-    omega arith
+-- where the place is known
+abbrev placed-at : tie.After-store-header-arg → tie.After-header-place
+placed-at c = c .before .before .before .before
 
-cast-store-header-3 : tie.Need-cast-store-header-3
-cast-store-header-3 c =
-    let a = c .before .before .before .before .before .before .args in
-    let p = header-fits (length (a .out .now)) (a .pages) (a .slots) (a .mode) (sym (c .before .before .before .before .header-place .ensures) ∙ c .before .before .place .given .1) in
-    let s = small (a .pages) (a .slots) (a .mode) (p .accepted) in
-    omega arith
+-- the header fits, and its three numbers their bytes
+fits :
+    (c : tie.After-store-header-arg) →
+    let a = start (placed-at c) .args in
+    HeaderFits (length (a .out .now)) (a .pages) (a .slots) (a .mode) (c .before .before .place .given .0 .0)
+fits c = header-fits _ _ _ _ (sym (placed-at c .header-place .ensures) ∙ c .before .before .place .given .1)
 
-store-header-requires : tie.Need-store-header-requires
-store-header-requires c κs =
-    let a = c .before .before .before .before .before .before .args in
-    header-fits (length (a .out .now)) (a .pages) (a .slots) (a .mode) (sym (c .before .before .before .before .header-place .ensures) ∙ c .before .before .place .given .1) .fits
+narrow :
+    (c : tie.After-store-header-arg) →
+    let a = start (placed-at c) .args in
+    Small (a .pages) (a .slots) (a .mode)
+narrow c = small _ _ _ (fits c .accepted)
 
 returns : tie.Need-returns
 returns c =
-    rw (sym (c .before .before .before .before .before .before .before .header-place .ensures) ∙ c .before .before .before .before .before .place .given .1)
-    (refl, c .before .before .store-header .ensures)
+    let s = c .before .before .before in
+    rw (sym (placed-at s .header-place .ensures) ∙ s .before .before .place .given .1) (refl, c .before .before .store-header .ensures)
 
 returns-2 : tie.Need-returns-2
 returns-2 c = rw (sym (c .before .before .before .header-place .ensures) ∙ c .before .place2 .given .1) (refl, refl)
@@ -48,10 +42,10 @@ put-header-spec =
     (tie.spec
     (λ c κs. search needs)
     (λ c. search needs)
-    cast-store-header
-    cast-store-header-2
-    cast-store-header-3
-    store-header-requires
+    (λ c. omega (arith, narrow c))
+    (λ c. omega (arith, narrow c))
+    (λ c. omega (arith, narrow c))
+    (λ c κs. fits c .fits)
     (λ c. search needs)
     (λ c. search needs)
     returns

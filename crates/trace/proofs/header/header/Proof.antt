@@ -33,13 +33,14 @@ returns-4 c =
 
 returns-5 : tie.Need-returns-5
 returns-5 c =
+    let tested = c .before .before .before .before in
     rw (
-      le-ltb _ _ (c .before .before .before .before .before .before .before .before .before .if1 .left),
-      ← c .before .before .before .before .before .before .before .before .marked .ensures,
-      c .before .before .before .before .before .before .before .if2 .left,
-      ← c .before .before .before .before .before .before .version-fits .ensures,
-      c .before .before .before .before .before .if3 .left,
-      le-ltb _ _ (c .before .before .before .before .if4 .left),
+      le-ltb _ _ (tested .before .before .before .before .before .if1 .left),
+      ← tested .before .before .before .before .marked .ensures,
+      tested .before .before .before .if2 .left,
+      ← tested .before .before .version-fits .ensures,
+      tested .before .if3 .left,
+      le-ltb _ _ (tested .if4 .left),
     )
     (c .set-up .ensures)
 

@@ -28,52 +28,63 @@ returns-2 c =
 
 -- ---- a header that says a set-up
 
-from-within : (c : tie.After-walk-place) → c .walk-place .result ≤ length (c .before .before .before .before .before .before .before .args .bytes .now)
-from-within c = rw (c .walk-place .ensures) (place-within _ _)
+-- where the header is read, and where the function starts
+abbrev header-at : tie.After-walk-place → tie.After-header
+header-at c = c .before .before .before .before
+
+abbrev start : tie.After-walk-place → tie.Start
+start c = header-at c .before .before .before
+
+from-within : (c : tie.After-walk-place) → c .walk-place .result ≤ length (start c .args .bytes .now)
+from-within c = omega (arith, c .walk-place .ensures, place-within (length (start c .args .bytes .now)) (start c .args .at))
 
 returns : tie.Need-returns
 unfolding replayedFrom bufferFrom
 returns c =
     let w = c .before .before in
-    let a = w .before .before .before .before .before .before .before .args in
-    let says = sym (w .before .before .before .before .header .ensures) ∙ w .before .before .said2 .given .1 in
+    let a = start w .args in
+    let says = sym (header-at w .header .ensures) ∙ w .before .before .said2 .given .1 in
     let short = buffer-short (a .bytes .now) (a .answers .now) (a .at) (w .walk-place .result) (w .walk-place .ensures) (c .before .if1 .taken) in
     (rw (says, short) (c .refused-replay2 .ensures), rw (says, short))
 
 -- ---- the run
 
+-- where the walk's place is known
+abbrev placed-at : tie.After-replay → tie.After-walk-place
+placed-at c = c .before .before .before .before
+
 -- the bytes, the buffer and the place that the function is given
 abbrev bytes : tie.After-replay → List ℕ
-bytes c = c .before .before .before .before .before .before .before .before .before .before .before .args .bytes .now
+bytes c = start (placed-at c) .args .bytes .now
 
 abbrev buffer : tie.After-replay → List ℕ
-buffer c = c .before .before .before .before .before .before .before .before .before .before .before .args .answers .now
+buffer c = start (placed-at c) .args .answers .now
 
 abbrev place : tie.After-replay → ℕ
-place c = c .before .before .before .before .before .before .before .before .before .before .before .args .at
+place c = start (placed-at c) .args .at
 
 -- the set-up that the header says
 abbrev pages : tie.After-replay → ℕ
-pages c = c .before .before .before .before .before .before .said2 .given .0 .0
+pages c = placed-at c .before .before .said2 .given .0 .0
 
 abbrev slots : tie.After-replay → ℕ
-slots c = c .before .before .before .before .before .before .said2 .given .0 .1 .0
+slots c = placed-at c .before .before .said2 .given .0 .1 .0
 
 abbrev mode : tie.After-replay → ℕ
-mode c = c .before .before .before .before .before .before .said2 .given .0 .1 .1 .0
+mode c = placed-at c .before .before .said2 .given .0 .1 .1 .0
 
 -- what the definition runs
 abbrev left : tie.After-replay → List ℕ
 left c = walkBytes (bytes c) (place c)
 
 abbrev from : tie.After-replay → ℕ
-from c = c .before .before .before .before .walk-place .result
+from c = placed-at c .walk-place .result
 
 says : (c : tie.After-replay) → headerOf (bytes c) ≡ Ready (pages c) (slots c) (mode c)
-says c = sym (c .before .before .before .before .before .before .before .before .header .ensures) ∙ c .before .before .before .before .before .before .said2 .given .1
+says c = sym (header-at (placed-at c) .header .ensures) ∙ placed-at c .before .before .said2 .given .1
 
 begins : (c : tie.After-replay) → from c ≡ walkPlace (length (bytes c)) (place c)
-begins c = c .before .before .before .before .walk-place .ensures
+begins c = placed-at c .walk-place .ensures
 
 part : (c : tie.After-replay) → take (length (bytes c) - from c) (drop (from c) (bytes c)) ≡ left c
 part c = walk-part (bytes c) (buffer c) (place c) (from c) (begins c)
@@ -96,14 +107,14 @@ fills c =
 same : (c : tie.After-replay) → walkActions (bytes c) (place c) ≡ shifted (from c) (decoded (left c))
 same c = walk-same (bytes c) (buffer c) (place c) (from c) (begins c)
 
-bytes-small : (c : tie.After-shared-slice-known) → length (c .before .args .bytes .now) < 2 ^ 64
+bytes-small : (c : tie.After-replay) → length (bytes c) < 2 ^ 64
 bytes-small c = search needs
 
 told-from-requires : tie.Need-told-from-requires
 told-from-requires c κs =
     let r = c .before .before in
     let stop = ap (λ (k : ReplayOutcome). k .stop) (runs r) in
-    omega (arith, stop, walk-stop (bytes r) (buffer r) (place r) (from r) (begins r), bytes-small (c .before .before .before .before .before .before .before .before .before .before .before .before))
+    omega (arith, stop, walk-stop (bytes r) (buffer r) (place r) (from r) (begins r), bytes-small r)
 
 returns-3 : tie.Need-returns-3
 unfolding replayedFrom bufferFrom

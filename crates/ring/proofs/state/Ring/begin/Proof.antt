@@ -20,17 +20,20 @@ use Rattle.ring.proofs.state.Ring.begin.Tie as tie
 narrow : (c : tie.Start) (i : ℕ) → Fits w32 (getD (c .args .t1 .numbers) i 0)
 narrow c i = search needs
 
--- the ring that the method is given
-abbrev start : tie.After-begin-verdict → tie.Start
-start c = c .before .before .before .before .before .before .before .before .before .before .before
+-- where the counts are tested, and where the function starts
+abbrev counts-tested-at : tie.After-begin-verdict → tie.After-counts-fit
+counts-tested-at c = c .before .before .before .before .before
 
+abbrev start : tie.After-begin-verdict → tie.Start
+start c = counts-tested-at c .before .before .before .before .before .before
+
+-- the ring that the method is given
 abbrev self : tie.After-begin-verdict → State
 self c = stateOf (start c .args .t1)
 
 -- the code's test is the definition's
-fitting : (c : tie.After-begin-verdict) → c .before .before .before .before .before .counts-fit .result && c .before .layout-fits .result ≡ inShape (self c)
-fitting c =
-    tested-inShape (self c) (c .before .before .before .before .before .counts-fit .ensures) (c .before .layout-fits .ensures) (narrow (start c))
+fitting : (c : tie.After-begin-verdict) → counts-tested-at c .counts-fit .result && c .before .layout-fits .result ≡ inShape (self c)
+fitting c = tested-inShape (self c) (counts-tested-at c .counts-fit .ensures) (c .before .layout-fits .ensures) (narrow (start c))
 
 -- and so is its verdict
 verdict : (c : tie.After-begin-verdict) → c .begin-verdict .result ≡ beginVerdict (inShape (self c)) (self c .depth) (self c .counts .begun)
@@ -38,11 +41,14 @@ verdict c =
     c .begin-verdict .ensures
     ∙ ap (λ (b : Bool). beginVerdict b (self c .depth) (self c .counts .begun)) (fitting c)
 
-allowed : (c : tie.After-enum-told) → Allows (inShape (self (c .before .before))) (self (c .before .before) .depth) (self (c .before .before) .counts .begun)
+abbrev given : tie.After-enum-told → State
+given c = self (c .before .before)
+
+allowed : (c : tie.After-enum-told) → Allows (inShape (given c)) (given c .depth) (given c .counts .begun)
 allowed c = allows _ _ _ (sym (verdict (c .before .before)) ∙ c .enum-told .given .1)
 
-shaped : (c : tie.After-enum-told) → InShape (self (c .before .before))
-shaped c = in-shape (self (c .before .before)) (allowed c .shape)
+shaped : (c : tie.After-enum-told) → InShape (given c)
+shaped c = in-shape (given c) (allowed c .shape)
 
 returns : tie.Need-returns
 returns c = rw (sym (verdict (c .before .before .before)) ∙ c .before .why .given .1)

@@ -10,6 +10,7 @@ use mir.Val.{Fits}
 use lib.ListN.{getD}
 use Rattle.ring.specs.Ring.{stateOf}
 use Rattle.rules.specs.Shape.{inShape}
+use Rattle.rules.specs.State.{State}
 use Rattle.rules.proofs.shape.Laws.{tested-inShape}
 use Rattle.ring.proofs.state.Ring.drain_into.Statement.{statement}
 use Rattle.ring.proofs.state.Ring.drain_into.Tie as tie
@@ -17,14 +18,28 @@ use Rattle.ring.proofs.state.Ring.drain_into.Tie as tie
 narrow : (c : tie.Start) (i : ℕ) → Fits w32 (getD (c .args .t1 .numbers) i 0)
 narrow c i = search needs
 
+-- where the counts are tested, where the buffer is known, and where the function starts
+abbrev counts-tested-at : tie.After-layout-fits → tie.After-counts-fit
+counts-tested-at c = c .before .before .before .before
+
+abbrev buffer-known-at : tie.After-layout-fits → tie.After-slice-known
+buffer-known-at c = counts-tested-at c .before .before .before .before .before .before
+
+abbrev start : tie.After-layout-fits → tie.Start
+start c = buffer-known-at c .before
+
+-- the ring that the method is given
+abbrev self : tie.After-layout-fits → State
+self c = stateOf (start c .args .t1)
+
 -- the code's test is the definition's
-fitting : (c : tie.After-layout-fits) → c .before .before .before .before .counts-fit .result && c .layout-fits .result ≡ inShape (stateOf (c .before .before .before .before .before .before .before .before .before .before .before .args .t1))
-fitting c = tested-inShape (stateOf (c .before .before .before .before .before .before .before .before .before .before .before .args .t1)) (c .before .before .before .before .counts-fit .ensures) (c .layout-fits .ensures) (narrow (c .before .before .before .before .before .before .before .before .before .before .before))
+fitting : (c : tie.After-layout-fits) → counts-tested-at c .counts-fit .result && c .layout-fits .result ≡ inShape (self c)
+fitting c = tested-inShape (self c) (counts-tested-at c .counts-fit .ensures) (c .layout-fits .ensures) (narrow (start c))
 
 returns : tie.Need-returns
 returns c = rw (sym (fitting (c .before)) ∙ not-true _ (c .if1 .taken)) (record { state = refl; last-answer = refl; stored = refl }, refl)
 
-shaped : (c : tie.Else1) → inShape (stateOf (c .before .before .before .before .before .before .before .before .before .before .before .before .args .t1)) ≡ true
+shaped : (c : tie.Else1) → inShape (self (c .before)) ≡ true
 shaped c = sym (fitting (c .before)) ∙ not-false _ (c .if1 .left)
 
 returns-2 : tie.Need-returns-2

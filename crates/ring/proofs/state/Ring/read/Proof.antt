@@ -16,6 +16,7 @@ use Rattle.rules.specs.Shape.{inShape}
 use Rattle.rules.specs.Read.{planRead, readRule}
 use Rattle.ring.specs.Pieces.{StoresPrecondition, FetchPrecondition}
 use Rattle.rules.specs.State.{State}
+use Rattle.ring.specs.declared.pieces.Stores.{Stores}
 use Rattle.ring.specs.declared.pieces.Stores.the-variants.{Same}
 use Rattle.rules.proofs.shape.Laws.{InShape, in-shape, tested-inShape}
 use Rattle.ring.proofs.read.Laws.{allows, plan-fits, event-fits}
@@ -28,16 +29,20 @@ narrow c i = search needs
 
 -- ---- the verdict
 
+-- where the counts are tested, and where the function starts
+abbrev counts-tested-at : tie.After-read-verdict → tie.After-counts-fit
+counts-tested-at c = c .before .before .before .before .before
+
 abbrev start : tie.After-read-verdict → tie.Start
-start c = c .before .before .before .before .before .before .before .before .before .before .before
+start c = counts-tested-at c .before .before .before .before .before .before
 
 -- the ring that the method is given
 abbrev self : tie.After-read-verdict → State
 self c = stateOf (start c .args .t1)
 
 -- the code's test is the definition's
-fitting : (c : tie.After-read-verdict) → c .before .before .before .before .before .counts-fit .result && c .before .layout-fits .result ≡ inShape (self c)
-fitting c = tested-inShape (self c) (c .before .before .before .before .before .counts-fit .ensures) (c .before .layout-fits .ensures) (narrow (start c))
+fitting : (c : tie.After-read-verdict) → counts-tested-at c .counts-fit .result && c .before .layout-fits .result ≡ inShape (self c)
+fitting c = tested-inShape (self c) (counts-tested-at c .counts-fit .ensures) (c .before .layout-fits .ensures) (narrow (start c))
 
 -- and so is its verdict
 verdict : (c : tie.After-read-verdict) → c .read-verdict .result ≡ readVerdict (inShape (self c))
@@ -86,39 +91,50 @@ read-stores-requires c κs =
     let d = c .before .before .before .before .before .before in
     (planned-fits d, omega (arith, shaped (allowed-at d)))
 
+-- where the answer is made, and where it is known what is done
+abbrev answered-at : tie.After-read-stores → tie.After-read-answer
+answered-at c = c .before .before .before
+
+abbrev planned-at : tie.After-read-stores → tie.After-plan-reader
+planned-at c = answered-at c .before .before .before .before
+
 read-handed-requires : tie.Need-read-handed-requires
-read-handed-requires c κs = shaped (allowed-at (c .before .before .before .before .before .before .before)) .handed
+read-handed-requires c κs = shaped (allowed-at (planned-at c)) .handed
 
 read-places-requires : tie.Need-read-places-requires
-read-places-requires c κs = omega (arith, shaped (allowed-at (c .before .before .before .before .before .before .before .before .before)))
+read-places-requires c κs = omega (arith, shaped (allowed-at (planned-at (c .before .before))))
 
 -- ---- when every call is made
 
--- the rule's outcome, with the pieces as the code has them. (The ways to the facts are spelled out: a name for a point past the stores would stop `rw` below.)
+-- where it is known what is stored
+abbrev stores-at : tie.After-read-phase → tie.After-read-stores
+stores-at c = c .before .before .before .before
+
+-- the rule's outcome, with the pieces as the code has them, and the stores as an arm knows them
 outcome-left :
-    (c : tie.After-read-phase) →
-    let d = c .before .before .before .before .before .before .before .before .before .before .before in
+    (c : tie.After-read-phase) {s : Stores} → stores-at c .read-stores .result ≡ s →
+    let d = planned-at (stores-at c) in
     readRule (given (allowed-at d))
     ≡ readLeaves (given (allowed-at d))
-    (c .before .before .before .before .before .before .before .read-answer .result)
+    (answered-at (stores-at c) .read-answer .result)
     (c .before .before .before .read-handed .result)
     (c .before .read-places .result)
     (c .read-phase .result)
-    (c .before .before .before .before .read-stores .result)
-outcome-left c =
-    let d = c .before .before .before .before .before .before .before .before .before .before .before in
+    s
+outcome-left c e =
+    let d = planned-at (stores-at c) in
     read-leaves (given (allowed-at d)) (allowed (allowed-at d)) (planned d)
-    (c .before .before .before .before .before .before .before .read-answer .ensures)
+    (answered-at (stores-at c) .read-answer .ensures)
     (c .before .before .before .read-handed .ensures)
     (c .before .read-places .ensures)
     (c .read-phase .ensures)
-    (c .before .before .before .before .read-stores .ensures)
+    (sym e ∙ stores-at c .read-stores .ensures)
 
-stores-within : (c : tie.After-read-phase) → StoresPrecondition (c .before .before .before .before .read-stores .result)
+stores-within : (c : tie.After-read-phase) → StoresPrecondition (stores-at c .read-stores .result)
 stores-within c =
-    let d = c .before .before .before .before .before .before .before .before .before .before .before in
+    let d = planned-at (stores-at c) in
     let r = given (allowed-at d) in
-    rw (c .before .before .before .before .read-stores .ensures)
+    rw (stores-at c .read-stores .ensures)
     (read-stores-precondition (r .places .reader) (r .words) (d .plan-reader .result) (planned-fits d) (omega (arith, shaped (allowed-at d))))
 
 -- ---- the arms
@@ -130,21 +146,21 @@ take-within : (c : tie.After-stores2) → (c .stores2 .given .0 .0 .0 ≤ mostPa
 take-within c = rw (c .stores2 .given .1) at (stores-within (c .before .before))
 
 returns-2 : tie.Need-returns-2
-returns-2 c = rw (outcome-left (c .before .before .before .before), c .before .before .stores .given .1)
+returns-2 c = rw (outcome-left (c .before .before .before .before) (c .before .before .stores .given .1))
 
 returns-3 : tie.Need-returns-3
-returns-3 c = rw (outcome-left (c .before .before .before .before .before), c .before .before .before .stores2 .given .1)
+returns-3 c = rw (outcome-left (c .before .before .before .before .before) (c .before .before .before .stores2 .given .1))
 
 -- the arm for all other kinds of stores: of these a Read makes only none
-same : (c : tie.At-match2-keys3) → c .before .before .before .before .before .read-stores .result ≡ Same
+same : (c : tie.At-match2-keys3) → stores-at (c .before) .read-stores .result ≡ Same
 same c =
-    let e = c .before .before .before .before .before .read-stores .ensures in
-    let d = c .before .before .before .before .before .before .before .before .before .before .before .before in
+    let e = stores-at (c .before) .read-stores .ensures in
+    let d = planned-at (stores-at (c .before)) in
     let r = given (allowed-at d) in
     e ∙ read-stores-same (r .places .reader) (r .words) (d .plan-reader .result) (rw e at (c .match2 .keys3))
 
 returns-4 : tie.Need-returns-4
-returns-4 c = rw (outcome-left (c .before), same c)
+returns-4 c = rw (outcome-left (c .before) (same c))
 
 pub read-spec : {M : Type 1} → statement M
 read-spec =

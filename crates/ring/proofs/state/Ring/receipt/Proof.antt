@@ -18,20 +18,24 @@ use Rattle.ring.proofs.state.Ring.receipt.Tie as tie
 narrow : (c : tie.Start) (i : ℕ) → Fits w32 (getD (c .args .t1 .numbers) i 0)
 narrow c i = search needs
 
+-- where the counts are tested, and where the function starts
+abbrev counts-tested-at : tie.After-layout-fits → tie.After-counts-fit
+counts-tested-at c = c .before .before .before .before
+
 abbrev start : tie.After-layout-fits → tie.Start
-start c = c .before .before .before .before .before .before .before .before .before .before
+start c = counts-tested-at c .before .before .before .before .before .before
 
 -- the ring that the method is given
 abbrev self : tie.After-layout-fits → State
 self c = stateOf (start c .args .t1)
 
 -- the code's test is the definition's
-fitting : (c : tie.After-layout-fits) → c .before .before .before .before .counts-fit .result && c .layout-fits .result ≡ inShape (self c)
-fitting c = tested-inShape (self c) (c .before .before .before .before .counts-fit .ensures) (c .layout-fits .ensures) (narrow (start c))
+fitting : (c : tie.After-layout-fits) → counts-tested-at c .counts-fit .result && c .layout-fits .result ≡ inShape (self c)
+fitting c = tested-inShape (self c) (counts-tested-at c .counts-fit .ensures) (c .layout-fits .ensures) (narrow (start c))
 
 receipt-of-requires : tie.Need-receipt-of-requires
 receipt-of-requires c κs =
-    let e = c .before .before .before .before .before in
+    let e = counts-tested-at (c .before) in
     sym (e .counts-fit .ensures) ∙ and-left (e .counts-fit .result) (c .before .layout-fits .result) (c .if1 .taken)
 
 returns : tie.Need-returns

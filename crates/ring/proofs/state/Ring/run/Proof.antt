@@ -1,7 +1,7 @@
 -- `Ring::run` makes the actions of the bytes one by one. The loop keeps `Progress` (proofs/replay/Laws): a turn stores what the action leaves, which is the action, and
 -- lays its answer; the ring of each turn is in shape, since it is reached from a set-up. The measure is how many bytes are left. Assumes nothing.
 use mathlib.Core.Path.{_≡_, sym, ap, _∙_}
-use Prim.Native.Nat.{_+_, _*_, _^_, _-_, _≤_, _<_}
+use Prim.Native.Nat.{ℕ, _+_, _*_, _^_, _-_, _≤_, _<_}
 use native.Mathlib.Omega.{arith}
 use borrow.Author.Needs.{needs}
 use lib.ListN.{length}
@@ -19,7 +19,7 @@ use Rattle.rules.specs.declared.actions.Coded.the-variants.{Whole}
 use Rattle.rules.proofs.actions.Laws.{whole-moves, decoded-stops, stops-of-numbers}
 use Rattle.rules.proofs.shape.Laws.{InShape, in-shape}
 use Rattle.ring.proofs.change.Laws.{change-precondition, change-top, change-stores}
-use Rattle.ring.proofs.replay.Laws.{Progress, start, shaped, buffer-length, turn, finish}
+use Rattle.ring.proofs.replay.Laws.{Progress, start as nothing-done, shaped, buffer-length, turn, finish}
 use Rattle.ring.proofs.state.Ring.run.Statement.{statement}
 use Rattle.ring.proofs.state.Ring.run.Tie as tie
 
@@ -30,97 +30,125 @@ abbrev μ-loop : tie.MeasureT-loop
 μ-loop bytes buffer₀ self₀ at₀ made₀ buffer self at made = length bytes - at
 
 loop-holds : tie.Need-loop-holds Inv-loop μ-loop
-loop-holds c = start _ _ _
+loop-holds c = nothing-done _ _ _
 
--- ---- the ring at the start of a turn
+-- ---- a turn: the ring that it starts from, and its action
 
-abbrev ring : tie.After-top-at Inv-loop μ-loop → State
-ring c = stateOf (c .before .before .before .before .before .loop .self)
+abbrev Loop : Type 0
+Loop = tie.At-loop Inv-loop μ-loop
 
-abbrev action : tie.After-top-at Inv-loop μ-loop → Action
+abbrev start : Loop → tie.Start Inv-loop μ-loop
+start l = l .before .before .before
+
+abbrev Turns : Type 0
+Turns = tie.After-top-at Inv-loop μ-loop
+
+abbrev loop-top : Turns → Loop
+loop-top c = c .before .before .before .before .before
+
+abbrev ring : Turns → State
+ring c = stateOf (loop-top c .loop .self)
+
+abbrev action : Turns → Action
 action c = c .before .before .action .given .0 .0
 
-in-order : (c : tie.After-top-at Inv-loop μ-loop) → InShape (ring c)
-in-order c = in-shape (ring c) (shaped (c .before .before .before .before .before .loop .inv) (c .before .before .before .before .before .before .before .before .pre .0))
+abbrev next : Turns → ℕ
+next c = c .before .before .action .given .0 .1 .0
 
-coded-here : (c : tie.After-top-at Inv-loop μ-loop) → codedAt (c .before .before .before .before .before .before .before .before .args .bytes .now) (c .before .before .before .before .before .loop .at) ≡ Whole (action c) (c .before .before .action .given .0 .1 .0)
+in-order : (c : Turns) → InShape (ring c)
+in-order c = in-shape (ring c) (shaped (loop-top c .loop .inv) (start (loop-top c) .pre .0))
+
+coded-here : (c : Turns) → codedAt (start (loop-top c) .args .bytes .now) (loop-top c .loop .at) ≡ Whole (action c) (next c)
 coded-here c = sym (c .before .before .before .before .action-at .ensures) ∙ c .before .before .action .given .1
 
-moves-here : (c : tie.After-top-at Inv-loop μ-loop)
-    → (c .before .before .before .before .before .loop .at < c .before .before .action .given .0 .1 .0) × (c .before .before .action .given .0 .1 .0 ≤ length (c .before .before .before .before .before .before .before .before .args .bytes .now))
-moves-here c = whole-moves (c .before .before .before .before .before .before .before .before .args .bytes .now) (c .before .before .before .before .before .loop .at) (coded-here c)
+moves-here : (c : Turns) → (loop-top c .loop .at < next c) × (next c ≤ length (start (loop-top c) .args .bytes .now))
+moves-here c = whole-moves (start (loop-top c) .args .bytes .now) (loop-top c .loop .at) (coded-here c)
 
 -- there is buffer for the answer
-same-buffer : (c : tie.After-top-at Inv-loop μ-loop) → length (c .before .before .before .before .before .loop .buffer) ≡ length (c .before .before .before .before .before .before .before .before .args .buffer .now)
-same-buffer c = buffer-length (c .before .before .before .before .before .loop .inv) (c .before .before .before .before .before .before .before .before .pre .1)
+same-buffer : (l : Loop) → length (l .loop .buffer) ≡ length (start l .args .buffer .now)
+same-buffer l = buffer-length (l .loop .inv) (start l .pre .1)
 
-buffer-fits : (c : tie.After-top-at Inv-loop μ-loop) → answerNumbers * length (c .before .before .before .before .before .before .before .before .args .bytes .now) ≤ length (c .before .before .before .before .before .before .before .before .args .buffer .now)
-buffer-fits c = c .before .before .before .before .before .before .before .before .pre .1
+buffer-small : (l : Loop) → length (start l .args .buffer .now) < 2 ^ 64
+buffer-small l = search needs
 
-few-made : (c : tie.After-top-at Inv-loop μ-loop) → c .before .before .before .before .before .loop .made ≤ c .before .before .before .before .before .loop .at
-few-made c = c .before .before .before .before .before .loop .inv .fewer
+buffer-here : (c : Turns) → answerNumbers * loop-top c .loop .made + 3 ≤ length (loop-top c .loop .buffer)
+buffer-here c = omega (arith, moves-here c, same-buffer (loop-top c), start (loop-top c) .pre .1, loop-top c .loop .inv .fewer)
 
-buffer-small : (c : tie.After-slice-known Inv-loop μ-loop) → length (c .before .before .args .buffer .now) < 2 ^ 64
-buffer-small c = search needs
-
-buffer-here : (c : tie.After-top-at Inv-loop μ-loop) → answerNumbers * c .before .before .before .before .before .loop .made + 3 ≤ length (c .before .before .before .before .before .loop .buffer)
-buffer-here c = omega (arith, moves-here c, same-buffer c, buffer-fits c, few-made c)
+made-small : (c : Turns) → answerNumbers * loop-top c .loop .made + 3 < 2 ^ 64
+made-small c = omega (arith, buffer-here c, same-buffer (loop-top c), buffer-small (loop-top c))
 
 element-copy-out-w : tie.Need-element-copy-out-w Inv-loop μ-loop
 element-copy-out-w c = omega (arith, c .top-at .ensures, in-order c)
 
-change-by-requires : tie.Need-change-by-requires Inv-loop μ-loop
-change-by-requires c κs =
-    let t = c .before .before .before .before .before .before .before .before .before .before in
-    rw (t .top-at .ensures) (change-precondition (ring t) (in-order t) (action t))
-
 -- ---- the change
 
-abbrev turned : tie.After-change-by Inv-loop μ-loop → tie.After-top-at Inv-loop μ-loop
-turned c = c .before .before .before .before .before .before .before .before .before .before .before
+-- where the pieces of the ring are copied for it, and where its turn begins
+abbrev copied-at : tie.After-change-by-arg8 Inv-loop μ-loop → tie.After-self Inv-loop μ-loop
+copied-at c = c .before .before .before .before
 
-is-change : (c : tie.After-change-by Inv-loop μ-loop) → c .change-by .result ≡ changeOf (ring (turned c)) (action (turned c))
-is-change c = rw (turned c .top-at .ensures) at (c .change-by .ensures)
+abbrev turn-at : tie.After-change-by-arg8 Inv-loop μ-loop → Turns
+turn-at c = copied-at c .before .before .before .before .before .before
+
+change-by-requires : tie.Need-change-by-requires Inv-loop μ-loop
+change-by-requires c κs =
+    let t = turn-at c in
+    rw (t .top-at .ensures) (change-precondition (ring t) (in-order t) (action t))
+
+abbrev turns : tie.After-change-by Inv-loop μ-loop → Turns
+turns c = turn-at (c .before)
+
+is-change : (c : tie.After-change-by Inv-loop μ-loop) → c .change-by .result ≡ changeOf (ring (turns c)) (action (turns c))
+is-change c = rw (turns c .top-at .ensures) at (c .change-by .ensures)
 
 top-within : (c : tie.After-change-by Inv-loop μ-loop) → c .change-by .result .at < mostDepth
-top-within c = rw (is-change c) (change-top (ring (turned c)) (in-order (turned c)) (action (turned c)))
+top-within c = rw (is-change c) (change-top (ring (turns c)) (in-order (turns c)) (action (turns c)))
 
 stores-within : (c : tie.After-change-by Inv-loop μ-loop) → StoresPrecondition (c .change-by .result .stores)
-stores-within c = rw (is-change c) (change-stores (ring (turned c)) (in-order (turned c)) (action (turned c)))
+stores-within c = rw (is-change c) (change-stores (ring (turns c)) (in-order (turns c)) (action (turns c)))
 
-mul-lay-answer : tie.Need-mul-lay-answer Inv-loop μ-loop
-mul-lay-answer c =
-    let t = c .before .before .before .before .before .before .before .before .before .before .before .before in
-    omega (arith, buffer-here t, same-buffer t, buffer-small (t .before .before .before .before .before .before))
+-- ---- the stores
 
-lay-answer-requires : tie.Need-lay-answer-requires Inv-loop μ-loop
-lay-answer-requires c κs = omega (arith, buffer-here (c .before .before .before .before .before .before .before .before .before .before .before .before))
+-- where the answer is laid, and where the change is known
+abbrev laid-at : tie.After-reader Inv-loop μ-loop → tie.After-lay-answer Inv-loop μ-loop
+laid-at c = c .before .before .before .before .before .before
 
-add-made : tie.Need-add-made Inv-loop μ-loop
-add-made c =
-    let t = c .before .before .before .before .before .before .before .before .before .before .before .before .before .before .before .before .before .before .before .before .before .before .before .before .before .before .before in
-    omega (arith, buffer-here t, same-buffer t, buffer-small (t .before .before .before .before .before .before))
+abbrev changed-at : tie.After-reader Inv-loop μ-loop → tie.After-change-by Inv-loop μ-loop
+changed-at c = laid-at c .before .before
 
-loop-less : tie.Need-loop-less Inv-loop μ-loop
-loop-less c = omega (arith, moves-here (c .before .before .before .before .before .before .before .before .before .before .before .before .before .before .before .before .before .before .before .before .before .before .before .before .before .before .before))
+-- where the pieces of the change are in hand
+abbrev pieces-at : tie.After-store-numbers Inv-loop μ-loop → tie.After-reader Inv-loop μ-loop
+pieces-at c = c .before .before .before .before .before .before
 
--- what the turn stored is the action's change, and what it laid is its answer
+-- what the turn stored is the action's change, and what it laid is its answer. (A `let`, not `pieces-at`, goes back over the stores: `rw` would
+-- reach into the argument of a name.)
 loop-again : tie.Need-loop-again Inv-loop μ-loop
 loop-again c =
-    let t = c .before .before .before .before .before .before .before .before .before .before .before .before .before .before .before .before .before .before .before .before .before .before .before .before .before .before .before in
-    let change = is-change (c .before .before .before .before .before .before .before .before .before .before .before .before .before .before .before .before) in
-    turn (t .before .before .before .before .before .loop .inv) (t .before .before .before .before .before .before .before .before .pre .0) (t .before .before .before .before .before .before .before .before .pre .1) (coded-here t)
-    (rw (c .store-values .ensures, c .before .before .store-numbers .ensures, c .before .before .before .before .store-used .ensures, c .before .before .before .before .before .before .store-words .ensures)
+    let n = c .before .before in
+    let p = n .before .before .before .before .before .before in
+    let change = is-change (changed-at p) in
+    let t = turns (changed-at p) in
+    let l = loop-top t in
+    turn (l .loop .inv) (start l .pre .0) (start l .pre .1) (coded-here t)
+    (rw (
+      c .store-values .ensures,
+      n .store-numbers .ensures,
+      n .before .before .store-used .ensures,
+      n .before .before .before .before .store-words .ensures,
+    )
     (ap (λ (k : Change). changed k (ring t)) change))
-    (c .before .before .before .before .before .before .before .before .before .before .before .before .before .before .lay-answer .ensures ∙ ap (λ (k : Change). laidAt (t .before .before .before .before .before .loop .buffer) (answerNumbers * t .before .before .before .before .before .loop .made) (k .answer)) change)
+    (laid-at p .lay-answer .ensures ∙ ap (λ (k : Change). laidAt (l .loop .buffer) (answerNumbers * l .loop .made) (k .answer)) change)
+
+-- ---- after the loop
 
 same-length : tie.Need-same-length Inv-loop μ-loop
-same-length c = buffer-length (c .before .before .before .loop .inv) (c .before .before .before .before .before .before .pre .1)
+same-length c = same-buffer (c .before .before .before)
 
 returns : tie.Need-returns Inv-loop μ-loop
 returns c =
-    let p = c .before .before .before .loop .inv in
-    let f = finish p (decoded-stops (c .before .before .before .before .before .before .args .bytes .now) (c .before .before .before .loop .at) (sym (c .before .before .action-at .ensures)) (stops-of-numbers (c .before .before .action-at .result) (c .before .match .keys2))) in
+    let l = c .before .before .before in
+    let a = c .before .before .action-at in
+    let stops = stops-of-numbers (a .result) (c .before .match .keys2) in
+    let f = finish (l .loop .inv) (decoded-stops (start l .args .bytes .now) (l .loop .at) (sym (a .ensures)) stops) in
     (c .ended .ensures ∙ f .0, f .1)
 
 pub run-spec : {M : Type 1} → statement M
@@ -136,16 +164,16 @@ run-spec =
     (λ c. omega (arith, c .top-at .ensures, in-order c))
     element-copy-out-w
     change-by-requires
-    mul-lay-answer
-    lay-answer-requires
-    (λ c. omega (arith, top-within (c .before .before .before .before .before .before .before .before)))
-    (λ c. omega (arith, top-within (c .before .before .before .before .before .before .before .before)))
-    (λ c κs. stores-within (c .before .before .before .before .before .before .before .before .before))
-    (λ c κs. stores-within (c .before .before .before .before .before .before .before .before .before .before .before))
-    (λ c κs. stores-within (c .before .before .before .before .before .before .before .before .before .before .before .before .before))
-    (λ c κs. stores-within (c .before .before .before .before .before .before .before .before .before .before .before .before .before .before .before))
-    add-made
-    loop-less
+    (λ c. omega (arith, made-small (turns (c .before))))
+    (λ c κs. omega (arith, buffer-here (turns (c .before))))
+    (λ c. omega (arith, top-within (changed-at c)))
+    (λ c. omega (arith, top-within (changed-at c)))
+    (λ c κs. stores-within (changed-at (c .before)))
+    (λ c κs. stores-within (changed-at (c .before .before .before)))
+    (λ c κs. stores-within (changed-at (c .before .before .before .before .before)))
+    (λ c κs. stores-within (changed-at (pieces-at (c .before))))
+    (λ c. omega (arith, made-small (turns (changed-at (pieces-at (c .before .before))))))
+    (λ c. omega (arith, moves-here (turns (changed-at (pieces-at (c .before .before))))))
     loop-again
     (λ c κs. search needs)
     same-length

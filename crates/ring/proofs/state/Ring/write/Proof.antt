@@ -16,6 +16,7 @@ use Rattle.rules.specs.Refusals.{writeVerdict}
 use Rattle.rules.specs.Shape.{inShape}
 use Rattle.rules.specs.Write.{planWrite, writeRule}
 use Rattle.ring.specs.Pieces.{StoresPrecondition, MovePrecondition}
+use Rattle.ring.specs.declared.pieces.Stores.{Stores}
 use Rattle.rules.proofs.shape.Laws.{InShape, in-shape, tested-inShape}
 use Rattle.ring.proofs.write.Laws.{Allows, allows, top-fits, plan-fits}
 use Rattle.ring.proofs.pieces.Laws.{leaves, write-leaves, stores-precondition}
@@ -27,16 +28,20 @@ narrow c i = search needs
 
 -- ---- the verdict
 
+-- where the counts are tested, and where the function starts
+abbrev counts-tested-at : tie.After-write-verdict → tie.After-counts-fit
+counts-tested-at c = c .before .before .before .before .before
+
 abbrev start : tie.After-write-verdict → tie.Start
-start c = c .before .before .before .before .before .before .before .before .before .before .before
+start c = counts-tested-at c .before .before .before .before .before .before
 
 -- the ring that the method is given
 abbrev self : tie.After-write-verdict → State
 self c = stateOf (start c .args .t1)
 
 -- the code's test is the definition's
-fitting : (c : tie.After-write-verdict) → c .before .before .before .before .before .counts-fit .result && c .before .layout-fits .result ≡ inShape (self c)
-fitting c = tested-inShape (self c) (c .before .before .before .before .before .counts-fit .ensures) (c .before .layout-fits .ensures) (narrow (start c))
+fitting : (c : tie.After-write-verdict) → counts-tested-at c .counts-fit .result && c .before .layout-fits .result ≡ inShape (self c)
+fitting c = tested-inShape (self c) (counts-tested-at c .counts-fit .ensures) (c .before .layout-fits .ensures) (narrow (start c))
 
 -- and so is its verdict
 verdict : (c : tie.After-write-verdict) → c .write-verdict .result ≡ writeVerdict (inShape (self c)) (self c .depth)
@@ -88,51 +93,69 @@ answer-after-requires c κs = omega (arith, shaped (allowed-at c))
 stores-after-requires : tie.Need-stores-after-requires
 stores-after-requires c κs = (planned-fits (c .before .before .before), omega (arith, shaped (allowed-at (c .before .before .before))))
 
+-- where the answer is made, and where the move is known
+abbrev answered-at : tie.After-record-after → tie.After-answer-after
+answered-at c = c .before .before .before .before
+
+abbrev planned-at : tie.After-record-after → tie.After-plan-phase
+planned-at c = answered-at c .before
+
 element-set-from-self : tie.Need-element-set-from-self
 element-set-from-self c =
-    let e = allowed-at (c .before .before .before .before .before) in
+    let e = allowed-at (planned-at c) in
     omega (arith, shaped e, allowed e)
 
 counts-after-requires : tie.Need-counts-after-requires
 counts-after-requires c κs =
-    let s = shaped (allowed-at (c .before .before .before .before .before .before .before)) in
-    (planned-fits (c .before .before .before .before .before .before .before), s .taken, s .overwritten, s .dropped)
+    let d = planned-at (c .before .before) in
+    let s = shaped (allowed-at d) in
+    (planned-fits d, s .taken, s .overwritten, s .dropped)
 
 places-after-requires : tie.Need-places-after-requires
-places-after-requires c κs = omega (arith, shaped (allowed-at (c .before .before .before .before .before .before .before .before .before .before)))
+places-after-requires c κs = omega (arith, shaped (allowed-at (planned-at (c .before .before .before .before .before))))
 
 depth-after-requires : tie.Need-depth-after-requires
-depth-after-requires c κs = omega (arith, allowed (allowed-at (c .before .before .before .before .before .before .before .before .before .before .before)))
+depth-after-requires c κs = omega (arith, allowed (allowed-at (planned-at (c .before .before .before .before .before .before))))
 
 -- ---- when every call is made
 
--- the rule's outcome, with the pieces as the code has them. (The ways to the facts are spelled out: a name for a point past the stores would stop `rw` below.)
+-- where the counts are made, where the record is, and where it is known what is stored
+abbrev counted-at : tie.After-depth-after → tie.After-counts-after
+counted-at c = c .before .before .before .before
+
+abbrev recorded-at : tie.After-depth-after → tie.After-record-after
+recorded-at c = counted-at c .before .before .before
+
+abbrev stores-at : tie.After-depth-after → tie.After-stores-after
+stores-at c = recorded-at c .before
+
+-- the rule's outcome, with the pieces as the code has them, and the stores as an arm knows them
 outcome-left :
-    (c : tie.After-depth-after) →
-    let d = c .before .before .before .before .before .before .before .before .before .before .before .before in
+    (c : tie.After-depth-after) {s : Stores} → stores-at c .stores-after .result ≡ s →
+    let d = planned-at (recorded-at c) in
     writeRule (given (allowed-at d))
     ≡ leaves (given (allowed-at d))
-    (c .before .before .before .before .before .before .before .before .before .before .before .answer-after .result)
-    (c .before .before .before .before .before .before .before .record-after .result)
-    (c .before .before .before .before .counts-after .result)
+    (answered-at (recorded-at c) .answer-after .result)
+    (recorded-at c .record-after .result)
+    (counted-at c .counts-after .result)
     (c .before .places-after .result)
     (c .depth-after .result)
-    (c .before .before .before .before .before .before .before .before .stores-after .result)
-outcome-left c =
-    let d = c .before .before .before .before .before .before .before .before .before .before .before .before in
+    s
+outcome-left c e =
+    let d = planned-at (recorded-at c) in
     write-leaves (given (allowed-at d)) (allowed (allowed-at d)) (planned d)
-    (c .before .before .before .before .before .before .before .before .before .before .before .answer-after .ensures)
-    (c .before .before .before .before .before .before .before .record-after .ensures)
-    (c .before .before .before .before .counts-after .ensures)
+    (answered-at (recorded-at c) .answer-after .ensures)
+    (recorded-at c .record-after .ensures)
+    (counted-at c .counts-after .ensures)
     (c .before .places-after .ensures)
     (c .depth-after .ensures)
-    (c .before .before .before .before .before .before .before .before .stores-after .ensures)
+    (sym e ∙ stores-at c .stores-after .ensures)
 
-stores-within : (c : tie.After-depth-after) → StoresPrecondition (c .before .before .before .before .before .before .before .before .stores-after .result)
+stores-within : (c : tie.After-depth-after) → StoresPrecondition (stores-at c .stores-after .result)
 stores-within c =
-    let d = c .before .before .before .before .before .before .before .before .before .before .before .before in
+    let d = planned-at (recorded-at c) in
     let r = given (allowed-at d) in
-    rw (c .before .before .before .before .before .before .before .before .stores-after .ensures)
+    rw (stores-at c .stores-after .ensures)
     (stores-precondition (r .size) (r .counts .taken) (top r .value) (r .words) (shaped (allowed-at d) .slots-most) (d .plan-phase .result) (planned-fits d))
 
 -- ---- the arms
@@ -150,19 +173,19 @@ value-within : (c : tie.After-stores4) → c .stores4 .given .0 .0 < slotRoom
 value-within c = rw (c .stores4 .given .1) at (stores-within (c .before .before))
 
 returns-2 : tie.Need-returns-2
-returns-2 c = rw (outcome-left (c .before .before), c .enum-told2 .given .1)
+returns-2 c = rw (outcome-left (c .before .before) (c .enum-told2 .given .1))
 
 returns-3 : tie.Need-returns-3
-returns-3 c = rw (outcome-left (c .before .before .before .before), c .before .before .stores .given .1)
+returns-3 c = rw (outcome-left (c .before .before .before .before) (c .before .before .stores .given .1))
 
 returns-4 : tie.Need-returns-4
-returns-4 c = rw (outcome-left (c .before .before .before .before .before), c .before .before .before .stores2 .given .1)
+returns-4 c = rw (outcome-left (c .before .before .before .before .before) (c .before .before .before .stores2 .given .1))
 
 returns-5 : tie.Need-returns-5
-returns-5 c = rw (outcome-left (c .before .before .before .before), c .before .before .stores3 .given .1)
+returns-5 c = rw (outcome-left (c .before .before .before .before) (c .before .before .stores3 .given .1))
 
 returns-6 : tie.Need-returns-6
-returns-6 c = rw (outcome-left (c .before .before .before), c .before .stores4 .given .1)
+returns-6 c = rw (outcome-left (c .before .before .before) (c .before .stores4 .given .1))
 
 pub write-spec : {M : Type 1} → statement M
 write-spec =
@@ -182,7 +205,7 @@ write-spec =
     answer-after-requires
     stores-after-requires
     (λ c κs. search needs)
-    (λ c. omega (arith, shaped (allowed-at (c .before .before .before .before .before))))
+    (λ c. omega (arith, shaped (allowed-at (planned-at c))))
     element-set-from-self
     counts-after-requires
     places-after-requires
