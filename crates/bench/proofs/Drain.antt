@@ -7,10 +7,10 @@ use lib.ListN.{length, drop}
 use lib.Seq.{drop-append-seam}
 use Rattle.rules.specs.Replay.{over}
 use Rattle.rules.specs.Drain.{drainRule}
-use Rattle.ring.specs.Drain.{Counted, bufferAfter}
-use Rattle.ring.proofs.drain.Laws.{counted-is}
 use Rattle.rules.specs.State.{State}
+use Rattle.ring.specs.Drain.{CountMatches, bufferAfter}
 use Rattle.ring.specs.declared.state.DrainCount.{DrainCount}
+use Rattle.ring.proofs.drain.Laws.{count-is}
 
 over-again : (prefix old : List ℕ) → over prefix (over prefix old) ≡ over prefix old
 over-again prefix old = ap (λ (l : List ℕ). prefix ++ l) (drop-append-seam prefix (drop (length prefix) old))
@@ -18,10 +18,10 @@ over-again prefix old = ap (λ (l : List ℕ). prefix ++ l) (drop-append-seam pr
 -- after the drain of a ring into `start`, one more into what that left
 module _ (ring : State) (start : List ℕ) {buffer buffer' : List ℕ} {made made' : DrainCount} where
   pub again :
-      Counted (drainRule ring (length start)) made →
+      CountMatches (drainRule ring (length start)) made →
       buffer ≡ bufferAfter (drainRule ring (length start)) start →
       length buffer ≡ length start →
-      Counted (drainRule ring (length buffer)) made' →
+      CountMatches (drainRule ring (length buffer)) made' →
       buffer' ≡ bufferAfter (drainRule ring (length buffer)) buffer →
       (buffer' ≡ buffer) × (made' ≡ made)
   again m r l m' r' =
@@ -31,5 +31,5 @@ module _ (ring : State) (start : List ℕ) {buffer buffer' : List ℕ} {made mad
             ∙ ap (over es) r
             ∙ over-again es start
             ∙ sym r,
-        counted-is _ made' (subst (λ (n : ℕ). Counted (drainRule ring n) made') l m') ∙ sym (counted-is _ made m),
+        count-is _ made' (subst (λ (n : ℕ). CountMatches (drainRule ring n) made') l m') ∙ sym (count-is _ made m),
       )

@@ -6,9 +6,9 @@ use lib.Dec.{ltb}
 use Rattle.rules.specs.Answers.{Outcome}
 use Rattle.rules.specs.SetUp.{freshRule}
 use Rattle.rules.specs.Act.{act}
+use Rattle.rules.specs.State.{State}
 use Rattle.rules.specs.declared.state.Action.{Action}
 use Rattle.rules.specs.declared.state.Action.the-variants.{Begin, Write, Read}
-use Rattle.rules.specs.State.{State}
 
 -- a Write while a writer is at work, then Reads until nothing waits, then a Begin
 abbrev pub nextAction : ℕ → ℕ → ℕ → ℕ → Action
@@ -18,10 +18,10 @@ abbrev pub nextOn : State → ℕ → Outcome
 nextOn r i = act r (nextAction (r .depth) (r .counts .handed) (r .counts .committed) i)
 
 -- the outcome of the first k actions
-unfoldable pub ran : ℕ → Outcome
-ran zero = freshRule 16 16 1
-ran (suc k) = nextOn (ran k .state) k
+unfoldable pub looped : ℕ → Outcome
+looped zero = freshRule 16 16 1
+looped (suc k) = nextOn (looped k .state) k
 
 -- how many readings they hand out
 abbrev pub handedAfter : ℕ → ℕ
-handedAfter k = ran k .state .counts .handed
+handedAfter k = looped k .state .counts .handed

@@ -4,9 +4,9 @@ ghost use mathlib.Core.Path.{_≡_};
 ghost use lib.ListN.{length};
 ghost use Rattle.rules.specs.Drain.{drainRule};
 ghost use Rattle.ring.specs.Drain.{bufferAfter};
-ghost use Rattle.bench.specs.Loop.{nextAction, handedAfter};
 ghost use Rattle.trace.specs.Header.{firstAction};
 ghost use Rattle.trace.specs.Replays.{replayedFrom, bufferFrom};
+ghost use Rattle.bench.specs.Loop.{nextAction, handedAfter};
 use ring::Action;
 use ring::Ring;
 

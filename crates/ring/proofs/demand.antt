@@ -1,3 +1,3 @@
--- From the invariant to demand 3, to what complete means, and to a ring always in shape. `Theorem` has the theorem, `Code` that of the code.
+-- Demand 3 of the code, and that there are such runs.
 pub mod Code
 pub mod CodeRuns

@@ -1,3 +1,2 @@
--- What the proofs about a drain share; that it is so many Reads made singly; and that eight Reads in a row never end one of a ring that is
--- reached.
+-- What the proofs about a drain share.
 pub mod Laws

@@ -11,10 +11,10 @@ use Rattle.rules.specs.Answers.{told}
 use Rattle.rules.specs.Shape.{inShape}
 use Rattle.rules.specs.History.{Run, recall, valueIn, nothing}
 use Rattle.rules.specs.Demand.{Claim, CompleteClaim, listed}
+use Rattle.ring.specs.Ring.{stateOf}
 use Rattle.rules.specs.declared.state.Action.{Action}
 use Rattle.rules.specs.declared.state.Answer.the-variants.{Accepted}
 use Rattle.rules.specs.declared.state.Receipt.{Receipt}
-use Rattle.ring.specs.Ring.{stateOf}
 use Rattle.ring.specs.declared.state.Ring.{Ring}
 use Rattle.ring.specs.declared.state.Step.{Step}
 

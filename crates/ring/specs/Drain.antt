@@ -10,7 +10,7 @@ use Rattle.ring.specs.Ring.{stateOf}
 use Rattle.ring.specs.declared.state.DrainCount.{DrainCount}
 
 -- the ring, the last answer, and how many events were stored
-pub record Counted (d : DrainOutcome) (r : DrainCount) : Type 0 where
+pub record CountMatches (d : DrainOutcome) (r : DrainCount) : Type 0 where
   pub state : stateOf (r .ring) ≡ d .state
   pub last-answer : r .last ≡ d .last
   pub stored : r .count ≡ length (d .events)

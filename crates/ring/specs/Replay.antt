@@ -4,8 +4,8 @@ use mathlib.Core.List.{List}
 use Prim.Native.Nat.{ℕ, _+_}
 use lib.ListN.{set}
 use Rattle.rules.specs.Replay.{ReplayOutcome, replayed}
-use Rattle.rules.specs.declared.codes.Numbers.{Numbers}
 use Rattle.ring.specs.Ring.{stateOf}
+use Rattle.rules.specs.declared.codes.Numbers.{Numbers}
 use Rattle.ring.specs.declared.state.Replay.{Replay}
 
 abbrev pub replayOutcome : Replay → ReplayOutcome

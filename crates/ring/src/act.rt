@@ -1,7 +1,7 @@
 // One action of any kind.
 ghost use mathlib.Core.Path.{_≡_};
-ghost use Rattle.ring.specs.Ring.{outcome, stateOf};
 ghost use Rattle.rules.specs.Act.{act};
+ghost use Rattle.ring.specs.Ring.{outcome, stateOf};
 use crate::state::Ring;
 use crate::state::Step;
 use rules::state::Action;

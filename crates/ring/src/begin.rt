@@ -1,8 +1,8 @@
 // Begin: a new writer on top of the stack.
 ghost use mathlib.Core.Path.{_≡_};
-ghost use Rattle.ring.specs.Ring.{outcome, stateOf};
 ghost use Rattle.rules.specs.Refusals.{beginVerdict};
 ghost use Rattle.rules.specs.Begin.{beginRule};
+ghost use Rattle.ring.specs.Ring.{outcome, stateOf};
 use crate::cells::wanting;
 use crate::shape::counts_fit;
 use crate::shape::layout_fits;

@@ -8,6 +8,7 @@ ghost use Rattle.ring.specs.Change.{topAt, unchanged, beginChange, moved
 use crate::begin::begin_verdict;
 use crate::cells::wanting;
 use crate::codes::answer_numbers;
+use crate::pieces::Stores;
 use crate::pieces::answer_after;
 use crate::pieces::counts_after;
 use crate::pieces::depth_after;
@@ -22,8 +23,8 @@ use crate::pieces::stores_after;
 use crate::read::plan_reader;
 use crate::write::plan_phase;
 use crate::write::write_verdict;
+use rules::codes::Numbers;
 use rules::moves::Move;
-use crate::pieces::Stores;
 use rules::moves::Verdict;
 use rules::state::Action;
 use rules::state::Answer;
@@ -32,7 +33,6 @@ use rules::state::Places;
 use rules::state::Reader;
 use rules::state::Size;
 use rules::state::Writer;
-use rules::codes::Numbers;
 
 // All that an action of any kind leaves: its answer, and each piece of the ring as it then is. A piece that stays is stored as it was.
 pub struct Change {

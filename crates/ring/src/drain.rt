@@ -12,7 +12,7 @@ ghost use Rattle.rules.specs.Shape.{inShape};
 ghost use Rattle.rules.specs.Drain.{eventNumber, drainReads, drainRule};
 ghost use Rattle.ring.specs.Turn.{eventsFrom, lastAfter};
 ghost use Rattle.ring.specs.Ring.{stateOf};
-ghost use Rattle.ring.specs.Drain.{Counted, bufferAfter};
+ghost use Rattle.ring.specs.Drain.{CountMatches, bufferAfter};
 ghost use Rattle.rules.specs.declared.state.Last.the-variants.{None};
 use crate::change::store_used;
 use crate::change::store_words;
@@ -78,7 +78,7 @@ impl Ring {
     // The Reads of a ring in shape.
     fn drain_shaped(mut self, buffer: &mut [u64]) -> DrainCount
         requires { ⌜ inShape (stateOf self) ≡ true ⌝ }
-        ensures { λ r. ⌜ Counted (drainReads mostInRow (length (now (buffer .entry))) (stateOf self) None) r × (now (buffer .exit) ≡ bufferAfter (drainReads mostInRow (length (now (buffer .entry))) (stateOf self) None) (now (buffer .entry))) ⌝ }
+        ensures { λ r. ⌜ CountMatches (drainReads mostInRow (length (now (buffer .entry))) (stateOf self) None) r × (now (buffer .exit) ≡ bufferAfter (drainReads mostInRow (length (now (buffer .entry))) (stateOf self) None) (now (buffer .entry))) ⌝ }
     {
         let most = buffer.len();
         let mut at: usize = 0;
@@ -121,7 +121,7 @@ impl Ring {
     // Event. The Events are the first `count` elements of the buffer, each as number * 2^32 + value; the rest keeps its contents. A ring out of
     // shape is refused with SHAPE, whatever the buffer's length.
     pub fn drain_into(self, buffer: &mut [u64]) -> DrainCount
-        ensures { λ r. ⌜ Counted (drainRule (stateOf self) (length (now (buffer .entry)))) r × (now (buffer .exit) ≡ bufferAfter (drainRule (stateOf self) (length (now (buffer .entry)))) (now (buffer .entry))) ⌝ }
+        ensures { λ r. ⌜ CountMatches (drainRule (stateOf self) (length (now (buffer .entry)))) r × (now (buffer .exit) ≡ bufferAfter (drainRule (stateOf self) (length (now (buffer .entry)))) (now (buffer .entry))) ⌝ }
     {
         let size = self.size;
         let places = self.places;

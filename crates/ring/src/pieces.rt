@@ -76,7 +76,7 @@ pub(crate) fn record_after(m: Move, value: u32) -> Writer
     Writer { value, phase }
 }
 
-// The loss is Counted at the mark: by the push another writer may have pushed. A sum past its limit is kept, and 64 bits hold it.
+// The loss is counted at the mark: by the push another writer may have pushed. A sum past its limit is kept, and 64 bits hold it.
 pub(crate) fn counts_after(m: Move, counts: Counts, used: &[u32; 17]) -> Counts
     requires { ⌜ MovePrecondition m × (counts .taken ≤ mostCount) × (counts .overwritten ≤ mostCount) × (counts .dropped ≤ mostCount) ⌝ }
     ensures { λ r. ⌜ r ≡ countsAfter m counts (now (used .entry)) ⌝ }

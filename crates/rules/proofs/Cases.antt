@@ -1,4 +1,4 @@
--- K1 to K12 hold of the rules, for any values in the readings of K9 to K11. By computation; no function of the code is in it.
+-- K1 to K12 hold of the rules, for any values in the readings of K9 to K11. By computation.
 -- Assumes nothing.
 use mathlib.Core.Path.{refl}
 use Prim.Native.Nat.{ℕ}

@@ -1,4 +1,4 @@
--- Laws and theorems that belong to no one function. The proof of a function stands in a folder of its own.
+-- What is proved of the rules: the limits, the worked cases, demand 3, and the later requests.
 pub mod Limits
 pub mod Lists
 pub mod Cases
@@ -13,5 +13,4 @@ pub mod runs
 pub mod demand
 pub mod setup
 pub mod shape
-pub mod read
 pub mod drain

@@ -1,16 +1,15 @@
--- Laws of the tests and lists of specs/Lists: what `every`, `allBelow` and `least` tell, and what a tabulated list holds; a run of stores;
--- and case splits on tests.
+-- Laws of the tests and lists of specs/Lists: what `every`, `allBelow` and `least` tell, and what a tabulated list holds; and case splits on tests.
 -- Assumes nothing.
 use mathlib.Core.Path.{_≡_, refl, sym, ap, _∙_}
 use mathlib.Core.Bool.{Bool, true, false, cond, _&&_, _||_, true≢false}
-use mathlib.Core.List.{List, [], _∷_, _++_}
-use Prim.Native.Nat.{ℕ, zero, suc, _+_, _-_, _≤_, _<_}
+use mathlib.Core.List.{List, [], _∷_}
+use Prim.Native.Nat.{ℕ, zero, suc, _-_, _≤_, _<_}
 use native.Mathlib.Omega.{arith}
 use native.Mathlib.Numerals.{add-one}
 use borrow.Author.Tests.{ltb-true, ltb-false, eqb-true, eqb-false}
 use lib.Dec.{eqb, ltb}
-use lib.ListN.{length, getD, set, replicate, length-append, List·getD-append}
-use lib.Seq.{getD-append-seam, sets}
+use lib.ListN.{length, getD, replicate, length-append, List·getD-append}
+use lib.Seq.{getD-append-seam}
 use Rattle.rules.specs.Lists.{andThen, every, all, allBelow, none, at, least, tabulate}
 
 -- ---- case splits
@@ -97,41 +96,12 @@ module _ (f : ℕ → Bool) where
   all-getD [] h = refl
   all-getD (x ∷ xs) h = rw (h 0) (all-getD xs (λ i. h (suc i)))
 
--- A loop that tests one number after the other: `ok` is the test of those below i. A record, so that f and i are found from it.
-pub record Tested (f : ℕ → Bool) (i : ℕ) (ok : Bool) : Type 0 where
-  pub is : ok ≡ allBelow i f
-
-pub tested-none : {f : ℕ → Bool} → Tested f 0 true
-tested-none = record { is = refl }
-
-pub tested-more : {f : ℕ → Bool} {i : ℕ} {ok b : Bool} → Tested f i ok → b ≡ f i → Tested f (i + 1) (ok && b)
-tested-more h e = record { is = rw (add-one, h .is, e) }
-
-pub tested-end : {f : ℕ → Bool} {i : ℕ} {ok : Bool} (m : ℕ) → Tested f i ok → i ≡ m → ok ≡ allBelow m f
-tested-end m h e = rw (← e) (h .is)
-
 -- ---- the lowest number that passes
 
 module _ (f : ℕ → Bool) where
-  least-is : (m i : ℕ) → i < m → least i f ≡ none → f i ≡ true → least m f ≡ at i
+  pub least-is : (m i : ℕ) → i < m → least i f ≡ none → f i ≡ true → least m f ≡ at i
   least-is zero i l h e = absurd (omega arith)
   least-is (suc m) i l h e = by-eq i m (λ q. rw (← q, h, e)) (λ n. rw (least-is m i (omega arith) h e))
-
--- A loop that looks for a number: none of those below i passes. A record, for the same reason.
-pub record Unseen (f : ℕ → Bool) (i : ℕ) : Type 0 where
-  pub is : least i f ≡ none
-
-pub unseen-none : {f : ℕ → Bool} → Unseen f 0
-unseen-none = record { is = refl }
-
-pub unseen-more : {f : ℕ → Bool} {i : ℕ} → Unseen f i → f i ≡ false → Unseen f (i + 1)
-unseen-more h e = record { is = rw (add-one, h .is, e) }
-
-pub unseen-seen : {f : ℕ → Bool} {i : ℕ} (m : ℕ) → Unseen f i → i < m → f i ≡ true → least m f ≡ at i
-unseen-seen {f} {i} m h l e = least-is f m i l (h .is) e
-
-pub unseen-end : {f : ℕ → Bool} {i : ℕ} (m : ℕ) → Unseen f i → i ≡ m → least m f ≡ none
-unseen-end m h e = rw (← e) (h .is)
 
 -- ---- a list made of a function
 
@@ -147,16 +117,6 @@ module _ (f : ℕ → ℕ) where
       by-eq i (length (tabulate k f))
       (λ q. rw q (getD-append-seam (tabulate k f) (f k) [] 0 ∙ ap f (sym l)))
       (λ n. List·getD-append (tabulate k f) (f k ∷ []) 0 i (omega arith) ∙ getD-tabulate k i (omega arith))
-
--- ---- a run of stores, and one more
-
-pub sets-more : (xs buffer : List ℕ) (from x k : ℕ) → k ≡ length xs → sets buffer from (xs ++ (x ∷ [])) ≡ set (sets buffer from xs) (from + k) x
-sets-more [] buffer from x k e =
-    let here : from ≡ from + k = omega arith in
-    ap (λ (j : ℕ). set buffer j x) here
-sets-more (y ∷ xs) buffer from x k e =
-    let there : suc from + (k - 1) ≡ from + k = omega arith in
-    sets-more xs (set buffer from y) (suc from) x (k - 1) (omega arith) ∙ ap (λ (j : ℕ). set (sets (set buffer from y) (suc from) xs) j x) there
 
 -- ---- a list of zeros
 

@@ -1,4 +1,4 @@
--- From the invariant to demand 3, to what complete means, and to a ring always in shape. `Theorem` has the theorem, `Code` that of the code.
+-- From the invariant to demand 3, to what complete means, and to a ring always in shape. `Theorem` has the theorem.
 pub mod Events
 pub mod Lost
 pub mod Slots

@@ -1,5 +1,4 @@
--- What the proofs about a drain share; that it is so many Reads made singly; and that eight Reads in a row never end one of a ring that is
--- reached.
+-- A drain is so many Reads made singly, and eight Reads in a row never end one of a ring that is reached.
 pub mod Singly
 pub mod Soon
 pub mod Within

@@ -1,4 +1,3 @@
--- Set-up: the laws of a fresh ring, and beside them the proofs of the functions of src/setup.rt. The proofs of the methods are under state/Ring,
--- beside the type's other methods.
+-- Set-up: the laws of a fresh ring.
 pub mod Laws
 pub mod InShape

@@ -1,2 +1,2 @@
--- The test of shape: the laws of the definition, and beside them the proofs of the functions of src/shape.rt that want one.
+-- In shape: what it tells of a ring.
 pub mod Laws

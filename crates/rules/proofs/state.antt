@@ -1,2 +1,2 @@
--- The ring's parts: laws of where a slot stands, and beside them the proofs of the ring's methods, under Ring.
+-- The parts of a ring: laws of where a slot stands.
 pub mod Laws

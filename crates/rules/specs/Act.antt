@@ -4,9 +4,9 @@ use Rattle.rules.specs.Answers.{Outcome}
 use Rattle.rules.specs.Begin.{beginRule}
 use Rattle.rules.specs.Write.{writeRule}
 use Rattle.rules.specs.Read.{readRule}
+use Rattle.rules.specs.State.{State}
 use Rattle.rules.specs.declared.state.Action.{Action}
 use Rattle.rules.specs.declared.state.Action.the-variants.{Begin, Write, Read}
-use Rattle.rules.specs.State.{State}
 
 abbrev pub act : State → Action → Outcome
 act r (Begin v) = beginRule r v

@@ -3,11 +3,11 @@
 -- Assumes nothing.
 use mathlib.Core.List.{List, [], _∷_}
 use Prim.Native.Nat.{ℕ}
+use Rattle.rules.specs.State.{State}
 use Rattle.rules.specs.declared.state.Refusal.{Refusal}
 use Rattle.rules.specs.declared.state.Refusal.the-variants.{Shape, Depth, Nobody, Worn, SetUp, Mark, Version, Sizes, Action, Room}
 use Rattle.rules.specs.declared.state.Answer.{Answer}
 use Rattle.rules.specs.declared.state.Answer.the-variants.{Accepted, Begun, Reserved, Looked, Dropped, Marked, Shared, Retry, Promoted, Standing, Cleared, Pushed, Passed, Filled, Committed, Pending, Event, Empty, Found, Busy, Prepared, Swapped, Missed, Refused}
-use Rattle.rules.specs.State.{State}
 
 -- 1 SHAPE, 2 DEPTH, 3 NOBODY, 4 WORN, 5 SETUP; of a trace, 6 "longer than that, or mark wrong or cut", 7 "version other or cut", 8 "set-up cut, or
 -- out of range", 9 "an unknown or cut action"; 10, room lent that is too short

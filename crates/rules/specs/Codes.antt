@@ -3,12 +3,12 @@
 use mathlib.Core.List.{[], _∷_}
 use Prim.Native.Nat.{ℕ, _+_}
 use lib.ListN.{getD}
+use Rattle.rules.specs.State.{reading}
+use Rattle.rules.specs.Answers.{numberOf}
 use Rattle.rules.specs.declared.state.Refusal.{Refusal}
 use Rattle.rules.specs.declared.state.Refusal.the-variants.{Shape, Depth, Nobody, Worn, SetUp, Mark, Version, Sizes, Action, Room}
 use Rattle.rules.specs.declared.state.Answer.{Answer}
 use Rattle.rules.specs.declared.state.Answer.the-variants.{Accepted, Begun, Reserved, Looked, Dropped, Marked, Shared, Retry, Promoted, Standing, Cleared, Pushed, Passed, Filled, Committed, Pending, Event, Empty, Found, Busy, Prepared, Swapped, Missed, Refused}
-use Rattle.rules.specs.State.{reading}
-use Rattle.rules.specs.Answers.{numberOf}
 use Rattle.rules.specs.declared.codes.Numbers.{Numbers}
 
 -- how many kinds of answer there are, with each refusal as one of its own

@@ -5,10 +5,10 @@ use Prim.Native.Nat.{ℕ, _-_}
 use lib.Dec.{eqb}
 use Rattle.rules.specs.Answers.{numberOf}
 use Rattle.rules.specs.Shape.{inShape}
+use Rattle.rules.specs.State.{State}
 use Rattle.rules.specs.declared.state.Counts.{Counts}
 use Rattle.rules.specs.declared.state.Refusal.the-variants.{Shape}
 use Rattle.rules.specs.declared.state.Receipt.{Receipt}
-use Rattle.rules.specs.State.{State}
 
 -- the refusal's number, the seven counts in the paper's order, and complete
 abbrev pub receipt : ℕ → ℕ → ℕ → ℕ → ℕ → ℕ → ℕ → ℕ → Bool → Receipt

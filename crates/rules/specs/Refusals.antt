@@ -8,9 +8,9 @@ use lib.Dec.{eqb}
 use Rattle.rules.specs.Limits.{mostDepth, mostCount}
 use Rattle.rules.specs.Lists.{first}
 use Rattle.rules.specs.Answers.{Outcome, gives}
+use Rattle.rules.specs.State.{State}
 use Rattle.rules.specs.declared.state.Refusal.the-variants.{Shape, Depth, Nobody, Worn, SetUp}
 use Rattle.rules.specs.declared.state.Answer.the-variants as answer
-use Rattle.rules.specs.State.{State}
 use Rattle.rules.specs.declared.moves.Verdict.{Verdict}
 use Rattle.rules.specs.declared.moves.Verdict.the-variants.{Allowed, Refused}
 

@@ -4,8 +4,8 @@
 use mathlib.Core.Bool.{Bool}
 use mathlib.Core.List.{List}
 use Prim.Native.Nat.{ℕ}
-use Rattle.rules.specs.declared.state.PageNo.{PageNo}
 use Rattle.rules.specs.State.{State}
+use Rattle.rules.specs.declared.state.PageNo.{PageNo}
 
 -- a writer: how many Begins were accepted before its own, and the value in its Begin
 pub record BegunWriter : Type 0 where

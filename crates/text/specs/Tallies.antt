@@ -2,8 +2,8 @@
 use Prim.Native.Nat.{ℕ, _+_, _%_, _^_}
 use mathlib.Core.List.{List}
 use lib.ListN.{getD, set, replicate}
-use Rattle.rules.specs.declared.state.Answer.{Answer}
 use Rattle.rules.specs.Codes.{kinds, numbersOf}
+use Rattle.rules.specs.declared.state.Answer.{Answer}
 
 -- a tally before any answer
 abbrev pub noAnswers : List ℕ
@@ -14,5 +14,5 @@ abbrev pub oneMore : List ℕ → ℕ → List ℕ
 oneMore counts code = set counts code ((getD counts code 0 + 1) % 2 ^ 64)
 
 -- one more answer of its kind
-abbrev pub counted : List ℕ → Answer → List ℕ
-counted counts answer = oneMore counts (numbersOf answer .code)
+abbrev pub tallied : List ℕ → Answer → List ℕ
+tallied counts answer = oneMore counts (numbersOf answer .code)

@@ -1,6 +1,6 @@
 // How often each kind of answer came.
 ghost use mathlib.Core.Path.{_≡_};
-ghost use Rattle.text.specs.Tallies.{noAnswers, counted};
+ghost use Rattle.text.specs.Tallies.{noAnswers, tallied};
 use crate::names::name;
 use crate::put::ROOM;
 use crate::put::end_line;
@@ -26,7 +26,7 @@ pub fn no_answers() -> Tally
 
 // One more answer of its kind.
 pub fn count_answer(counts: &mut Tally, answer: Answer)
-    ensures { λ _. ⌜ now (counts .exit) ≡ counted (now (counts .entry)) answer ⌝ }
+    ensures { λ _. ⌜ now (counts .exit) ≡ tallied (now (counts .entry)) answer ⌝ }
 {
     let numbers = answer_numbers(answer);
     let code = numbers.code as usize;

@@ -10,11 +10,11 @@ use lib.ListN.{length, length-append}
 use lib.Seq.{getD-append-seam, getD-append-add}
 use Rattle.rules.specs.Limits.{mostCount}
 use Rattle.rules.specs.Actions.{beginCode, writeCode, readCode, beginLength, valueOf, valueBytes, codedAt, actionFirst, decodedFrom, coded, encoded}
+use Rattle.trace.specs.Trace.{ValueFits, ValuesFit}
 use Rattle.rules.specs.declared.state.Action.{Action}
 use Rattle.rules.specs.declared.state.Action.the-variants.{Begin, Write, Read}
 use Rattle.rules.specs.declared.actions.Coded.the-variants.{Whole, End}
 use Rattle.rules.proofs.actions.Laws.{decoded-whole, decoded-stops}
-use Rattle.trace.specs.Trace.{ValueFits, ValuesFit}
 
 -- ---- one action
 

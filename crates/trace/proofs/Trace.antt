@@ -11,18 +11,18 @@ use Rattle.rules.specs.State.{sizeOf}
 use Rattle.rules.specs.Shape.{sizeFits}
 use Rattle.rules.specs.Actions.{Decoded, decodedFrom, coded, encoded}
 use Rattle.rules.specs.Replay.{answerNumbers, over, ranBuffer, bufferFits}
-use Rattle.rules.specs.declared.state.Action.{Action}
-use Rattle.rules.specs.declared.state.Refusal.{Refusal}
 use Rattle.trace.specs.Header.{mostLength, markEnd, versionEnd, firstAction, plainByte, headerOf}
 use Rattle.trace.specs.Replays.{walkPlace, walkBytes, walkActions, walked, headerRing, replayedFrom, bufferFrom}
 use Rattle.trace.specs.Encode.{headerBytes, put, kept, placeFor, headerPlace, actionPlace}
 use Rattle.trace.specs.Trace.{ValuesFit, traceOf, Written, writtenFrom, written, ReadBack, WrittenOut, ReplayedBack, RoundTrip}
+use Rattle.rules.specs.declared.state.Action.{Action}
+use Rattle.rules.specs.declared.state.Refusal.{Refusal}
 use Rattle.trace.specs.declared.parts.Header.the-variants.{Ready}
 use Rattle.trace.specs.declared.parts.Put.{Put}
 use Rattle.trace.specs.declared.parts.Put.the-variants.{At, Refused}
 use Rattle.ring.proofs.replay.Laws.{over-length}
 use Rattle.trace.proofs.Actions.{decoded-encoded}
-use Rattle.trace.proofs.encode.Laws.{small, placed, header-fits}
+use Rattle.trace.proofs.encode.Laws.{small, placed, header-placed}
 use Rattle.trace.proofs.walk.Laws.{buffer-enough}
 
 -- ---- reading
@@ -112,7 +112,7 @@ module _ (pages slots mode : ℕ) (actions : List Action) (out : List ℕ) where
   -- the first call
   begun : {next : ℕ} → headerPlace (length out) pages slots mode ≡ At next → written pages slots mode actions out ≡ writtenFrom (At (length (headerBytes pages slots mode))) (over (headerBytes pages slots mode) out) actions
   begun e =
-      let n = header-fits (length out) pages slots mode e .after in
+      let n = header-placed (length out) pages slots mode e .after in
       ap (λ (p : Put). writtenFrom p (kept p (put (headerBytes pages slots mode) 0 out) out) actions) (e ∙ ap At n)
 
   write-out : sizeFits (sizeOf pages slots mode) ≡ true → length (traceOf pages slots mode actions) ≤ mostLength → length (traceOf pages slots mode actions) ≤ length out → written pages slots mode actions out .place ≡ At (length (traceOf pages slots mode actions))
@@ -125,7 +125,7 @@ module _ (pages slots mode : ℕ) (actions : List Action) (out : List ℕ) where
       by-put (headerPlace (length out) pages slots mode)
       (λ next e.
       let b = begun e in
-      let p = header-fits (length out) pages slots mode e in
+      let p = header-placed (length out) pages slots mode e in
       let w = wrote-from out (headerBytes pages slots mode) actions end (omega arith) (omega arith) (rw b at h) in
       record {
         stop = w .stop;

@@ -9,9 +9,9 @@ use Rattle.rules.specs.Lists.{first}
 use Rattle.rules.specs.State.{sizeOf}
 use Rattle.rules.specs.Shape.{sizeFits}
 use Rattle.rules.specs.Actions.{coded}
+use Rattle.trace.specs.Header.{mostLength, letterP, letterT, letterR, version, firstAction}
 use Rattle.rules.specs.declared.state.Refusal.the-variants.{Mark, Sizes, Room}
 use Rattle.rules.specs.declared.state.Action.{Action}
-use Rattle.trace.specs.Header.{mostLength, letterP, letterT, letterR, version, firstAction}
 use Rattle.trace.specs.declared.parts.Put.{Put}
 use Rattle.trace.specs.declared.parts.Put.the-variants.{At, Refused}
 

@@ -11,11 +11,11 @@ use Rattle.rules.specs.State.{sizeOf, State}
 use Rattle.rules.specs.SetUp.{freshRing}
 use Rattle.rules.specs.Actions.{Decoded, codedAt, decodedFrom}
 use Rattle.rules.specs.Replay.{stateAfter, ranBuffer, bufferFits, replayed, refusedReplay, ReplayOutcome}
+use Rattle.trace.specs.Header.{headerOf}
 use Rattle.rules.specs.declared.state.Refusal.the-variants as refusal
 use Rattle.rules.specs.declared.state.Answer.{Answer}
 use Rattle.rules.specs.declared.state.Answer.the-variants as answer
 use Rattle.rules.specs.declared.actions.Coded.the-variants.{Broken}
-use Rattle.trace.specs.Header.{headerOf}
 use Rattle.trace.specs.declared.parts.Header.{Header}
 use Rattle.trace.specs.declared.parts.Header.the-variants.{Ready, Refused}
 

@@ -11,12 +11,12 @@ use Rattle.rules.specs.Shape.{sizeFits}
 use Rattle.rules.specs.Actions.{decodedFrom, encoded}
 use Rattle.rules.specs.SetUp.{freshRing}
 use Rattle.rules.specs.Replay.{stateAfter, answersOf, answerNumbers, laid, over, replayed}
-use Rattle.rules.specs.declared.state.Answer.the-variants.{Accepted}
-use Rattle.rules.specs.declared.state.Action.{Action}
-use Rattle.rules.specs.declared.state.Action.the-variants.{Begin, Write, Read}
 use Rattle.trace.specs.Header.{mostLength, firstAction, headerOf}
 use Rattle.trace.specs.Replays.{replayedFrom, bufferFrom}
 use Rattle.trace.specs.Encode.{headerBytes, headerPlace, headerPut, actionPlace, actionPut}
+use Rattle.rules.specs.declared.state.Answer.the-variants.{Accepted}
+use Rattle.rules.specs.declared.state.Action.{Action}
+use Rattle.rules.specs.declared.state.Action.the-variants.{Begin, Write, Read}
 use Rattle.trace.specs.declared.parts.Header.the-variants.{Ready}
 use Rattle.trace.specs.declared.parts.Put.{Put}
 use Rattle.trace.specs.declared.parts.Put.the-variants.{At, Refused}

@@ -5,10 +5,10 @@ use native.Mathlib.Omega.{arith}
 use borrow.Author.Needs.{needs}
 use lib.ListN.{length}
 use Rattle.rules.specs.Drain.{drainRule}
-use Rattle.ring.specs.Ring.{stateOf}
-use Rattle.ring.specs.Drain.{Counted, bufferAfter}
-use Rattle.ring.specs.declared.state.DrainCount.{DrainCount}
 use Rattle.rules.specs.Replay.{ReplayOutcome}
+use Rattle.ring.specs.Ring.{stateOf}
+use Rattle.ring.specs.Drain.{CountMatches, bufferAfter}
+use Rattle.ring.specs.declared.state.DrainCount.{DrainCount}
 use Rattle.bench.proofs.Drain.{again}
 use Rattle.bench.proofs.bench_drain.Statement.{statement}
 use Rattle.bench.proofs.bench_drain.Tie as tie
@@ -40,7 +40,7 @@ loop-again c =
     let second = c .before .before .drain-into2 .ensures in
     let same =
     again (stateOf (replayed-at l .replay .result .ring)) (start l .args .buffer .now) {made = l .loop .made}
-    (subst (Counted _) (sym (inv .1)) (first .ensures .0)) (inv .0 ∙ first .ensures .1) (ap length (inv .0) ∙ first .kept .1 .0) (second .0) (second .1) in
+    (subst (CountMatches _) (sym (inv .1)) (first .ensures .0)) (inv .0 ∙ first .ensures .1) (ap length (inv .0) ∙ first .kept .1 .0) (second .0) (second .1) in
     (same .0 ∙ inv .0, same .1 ∙ inv .1)
 
 same-length-2 : tie.Need-same-length-2 Inv-loop μ-loop

@@ -9,18 +9,18 @@ use Rattle.rules.specs.Answers.{Outcome}
 use Rattle.rules.specs.State.{State}
 use Rattle.rules.specs.Receipt.{receiptRule}
 use Rattle.rules.specs.Remember.{History}
-use Rattle.ring.specs.Ring.{stateOf, outcome}
 use Rattle.rules.specs.History.{Run, after, runOf, nothing, recall, valueIn}
 use Rattle.rules.specs.Demand.{Claim, CompleteClaim, Sound, RunClaim}
+use Rattle.ring.specs.Ring.{stateOf, outcome}
 use Rattle.ring.specs.Code.{Made, asked, ringAfter, runTold, runFrom, Follow, CodeDemand3}
 use Rattle.rules.specs.declared.state.Action.{Action}
 use Rattle.rules.specs.declared.state.Receipt.{Receipt}
 use Rattle.ring.specs.declared.state.Ring.{Ring}
 use Rattle.ring.specs.declared.state.Step.{Step}
+use Rattle.rules.proofs.demand.Theorem.{demand-3}
 use Rattle.ring.proofs.state.Ring.fresh.Reads as fresh-promise
 use Rattle.ring.proofs.state.Ring.act.Reads as act-promise
 use Rattle.ring.proofs.state.Ring.receipt.Reads as receipt-promise
-use Rattle.rules.proofs.demand.Theorem.{demand-3}
 
 -- ---- what callers learn of the functions: of the parameters, the result, and the parameters again, which are passed by value and stay
 

@@ -6,8 +6,6 @@ use mathlib.Core.List.{List, [], _∷_}
 use Prim.Native.Nat.{ℕ}
 use Rattle.rules.specs.State.{sizeOf, State}
 use Rattle.rules.specs.Answers.{Outcome, gives}
-use Rattle.ring.specs.Ring.{stateOf, outcome}
-use Rattle.ring.proofs.Representation.{ringOf}
 use Rattle.rules.specs.Refusals.{beginVerdict, writeVerdict, readVerdict, setUpVerdict, judged}
 use Rattle.rules.specs.Shape.{sizeFits, inShape}
 use Rattle.rules.specs.SetUp.{freshRing, plainRing, freshRule}
@@ -16,17 +14,19 @@ use Rattle.rules.specs.Write.{planWrite, moved}
 use Rattle.rules.specs.Read.{planRead, fetched}
 use Rattle.rules.specs.Act.{act}
 use Rattle.rules.specs.Receipt.{receiptRule}
+use Rattle.ring.specs.Ring.{stateOf, outcome}
 use Rattle.ring.specs.Code.{Made, asked, ringAfter, Follow, CodeRuns}
 use Rattle.rules.specs.declared.state.Action.{Action}
 use Rattle.rules.specs.declared.state.Action.the-variants.{Begin, Write, Read}
 use Rattle.rules.specs.declared.state.Answer.the-variants.{Accepted}
-use Rattle.ring.specs.declared.state.Step.{Step}
 use Rattle.rules.specs.declared.moves.Verdict.{Verdict}
 use Rattle.rules.specs.declared.moves.Verdict.the-variants.{Allowed, Refused}
 use Rattle.rules.specs.declared.moves.Move.{Move}
 use Rattle.rules.specs.declared.moves.Move.the-variants as move
 use Rattle.rules.specs.declared.moves.Fetch.{Fetch}
 use Rattle.rules.specs.declared.moves.Fetch.the-variants as fetch
+use Rattle.ring.specs.declared.state.Step.{Step}
+use Rattle.ring.proofs.Representation.{ringOf}
 use Rattle.ring.proofs.demand.Code.{FreshGives, ActGives, ReceiptGives}
 
 -- the step with an outcome's ring and answer

@@ -17,15 +17,15 @@ use Rattle.rules.specs.Replay.{over}
 use Rattle.rules.specs.Limits.{mostInRow}
 use Rattle.rules.specs.Drain.{DrainOutcome, drainEnds, drainReads}
 use Rattle.ring.specs.Turn.{eventsFrom, lastAfter, turnOf, turned}
-use Rattle.ring.proofs.Representation.{ringOf}
-use Rattle.ring.specs.Drain.{Counted, bufferAfter}
+use Rattle.ring.specs.Drain.{CountMatches, bufferAfter}
 use Rattle.rules.specs.declared.state.Last.{Last}
 use Rattle.rules.specs.declared.state.Last.the-variants.{None}
 use Rattle.ring.specs.declared.state.DrainCount.{DrainCount}
 use Rattle.ring.specs.declared.turn.Turn.{Turn}
 use Rattle.rules.proofs.Lists.{by-bool, length-tabulate}
 use Rattle.rules.proofs.shape.Laws.{in-shape}
-use Rattle.rules.proofs.read.Kept.{parts, reshaped}
+use Rattle.ring.proofs.Representation.{ringOf}
+use Rattle.ring.proofs.read.Kept.{parts, reshaped}
 use Rattle.ring.proofs.replay.Laws.{over-length, sets-over}
 use Rattle.ring.proofs.turn.Laws.{goOn, go-on, eventsFirst, handed-fits, Turned, turn-drains}
 
@@ -58,9 +58,9 @@ ended es r last = record { state = r; events = es; last = last }
 abbrev pub drainCount : State → Last → ℕ → DrainCount
 drainCount r last count = record { ring = ringOf r; last = last; count = count }
 
--- `Counted` leaves nothing open
-pub counted-is : (d : DrainOutcome) (r : DrainCount) → Counted d r → r ≡ drainCount (d .state) (d .last) (length (d .events))
-counted-is d r e =
+-- `CountMatches` leaves nothing open
+pub count-is : (d : DrainOutcome) (r : DrainCount) → CountMatches d r → r ≡ drainCount (d .state) (d .last) (length (d .events))
+count-is d r e =
     ap (λ (s : State). drainCount s (r .last) (r .count)) (e .state)
     ∙ ap (λ (l : Last). drainCount (d .state) l (r .count)) (e .last-answer)
     ∙ ap (drainCount (d .state) (d .last)) (e .stored)
@@ -182,7 +182,7 @@ module _ {r0 : State} {buffer0 : List ℕ} {r : State} {buffer : List ℕ} {at l
       b ≡ ltb 0 left →
       ok ≡ leb (r .counts .handed + r .counts .overwritten) (r .counts .committed) →
       (a && b) && ok ≡ false →
-      Counted (whole r0 buffer0) (drainCount r (lastAfter (a && b) last) at) × (buffer ≡ bufferAfter (whole r0 buffer0) buffer0)
+      CountMatches (whole r0 buffer0) (drainCount r (lastAfter (a && b) last) at) × (buffer ≡ bufferAfter (whole r0 buffer0) buffer0)
   finish a b ok ea eb eo h =
       let all : whole r0 buffer0 ≡ ended (p .events) r (lastAfter (a && b) last) =
       p .rest ∙ ap (eventsFirst (p .events)) (ends a b ok ea eb eo h) ∙ ap (λ (es : List ℕ). ended es r (lastAfter (a && b) last)) (append-nil (p .events)) in (

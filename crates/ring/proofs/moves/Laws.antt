@@ -1,4 +1,4 @@
--- A verdict is not both of its kinds. And what holds in an arm of a match on a Move, a Fetch or Stores that is for several variants, as `_ => ..`: there it is known by the
+-- A verdict is not both of its kinds. And what holds in an arm of a match on a Move, a Fetch, Stores or what is coded that is for several variants, as `_ => ..`: there it is known by the
 -- numbers of these variants, and a fact of each of them is a fact of it.
 -- Assumes nothing.
 use mathlib.Core.Path.{_≡_}
@@ -9,6 +9,7 @@ use native.Mathlib.Omega.{arith}
 use lib.ListN.{getD}
 use types.Run.{OneOf}
 use denote.Enum.Declared.{tagOf}
+use Rattle.rules.specs.Actions.{Stops}
 use Rattle.rules.specs.declared.state.PageNo.{PageNo}
 use Rattle.rules.specs.declared.state.WriterPhase.{WriterPhase}
 use Rattle.rules.specs.declared.state.Answer.{Answer}
@@ -19,8 +20,11 @@ use Rattle.rules.specs.declared.moves.Move.the-variants.{Become, Reserve, Drop,
 use Rattle.rules.specs.declared.moves.Fetch.{Fetch}
 use Rattle.rules.specs.declared.moves.Fetch.the-variants as fetch
 use Rattle.rules.specs.declared.state.ReadingNo.{ReadingNo}
+use Rattle.rules.specs.declared.actions.Coded.{Coded}
+use Rattle.rules.specs.declared.actions.Coded.the-variants.{Whole, Broken, End}
 use Rattle.ring.specs.declared.pieces.Stores.{Stores}
 use Rattle.ring.specs.declared.pieces.Stores.the-variants as stores
+use Rattle.rules.proofs.actions.Coded as coded-type
 use Rattle.rules.proofs.moves.Move as move-type
 use Rattle.rules.proofs.moves.Fetch as fetch-type
 use Rattle.ring.proofs.pieces.Stores as stores-type
@@ -124,3 +128,10 @@ module _ (P : Stores → Type 0) where
 
   pub stores-of-numbers : (ks : List ℕ) (s : Stores) → Ats StoresAt ks → OneOf ks (tagOf stores-type.the-type s) → P s
   stores-of-numbers = of-one P StoresAt (tagOf stores-type.the-type) of-stores
+
+-- what stands at a place of some bytes is no whole action
+pub stops-of-numbers : (c : Coded) → OneOf (1 ∷ 2 ∷ []) (tagOf coded-type.the-type c) → Stops c
+stops-of-numbers (Whole a next) (inl o) = absurd (omega arith)
+stops-of-numbers (Whole a next) (inr o) = absurd (omega arith)
+stops-of-numbers Broken o = tt
+stops-of-numbers End o = tt

@@ -30,8 +30,8 @@ use Rattle.rules.specs.declared.moves.Fetch.{Fetch}
 use Rattle.rules.specs.declared.moves.Fetch.the-variants as fetch
 use Rattle.ring.specs.declared.pieces.Stores.{Stores}
 use Rattle.ring.specs.declared.pieces.Stores.the-variants as stores
-use Rattle.ring.proofs.pieces.Stores.{the-type}
 use Rattle.rules.proofs.state.Laws.{slotIndex-room}
+use Rattle.ring.proofs.pieces.Stores.{the-type}
 use Rattle.ring.proofs.write.Laws.{Allows}
 
 -- ---- Write

@@ -23,10 +23,10 @@ use Rattle.rules.specs.declared.moves.Fetch.{Fetch}
 use Rattle.rules.specs.declared.moves.Fetch.the-variants.{Event, Empty, Busy, Find, Prepare, Swap, Miss}
 use Rattle.rules.specs.declared.moves.Verdict.the-variants.{Allowed}
 use Rattle.rules.proofs.Lists.{by-cond, and-left}
-use Rattle.ring.proofs.moves.Laws.{refused-is-not-allowed}
 use Rattle.rules.proofs.order.Search.{Tells, search-tells}
 use Rattle.rules.proofs.shape.Laws.{InShape, pages-fit}
 use Rattle.rules.proofs.state.Laws.{slotIndex-room}
+use Rattle.ring.proofs.moves.Laws.{refused-is-not-allowed}
 
 pub allows : (fits : Bool) → readVerdict fits ≡ Allowed → fits ≡ true
 allows false h = absurd (refused-is-not-allowed _ h)

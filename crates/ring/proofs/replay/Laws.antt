@@ -12,18 +12,18 @@ use Rattle.rules.specs.Codes.{numbersOf}
 use Rattle.rules.specs.Shape.{inShape}
 use Rattle.rules.specs.Act.{act}
 use Rattle.rules.specs.Actions.{Decoded, stopped, codedAt, decoded, decodedFrom}
-use Rattle.ring.specs.Change.{changeOf, changed}
 use Rattle.rules.specs.Replay.{stateAfter, answersOf, answerNumbers, laid, over, ranBuffer, Reached, replayed, ran}
+use Rattle.rules.specs.State.{State}
+use Rattle.ring.specs.Change.{changeOf, changed}
 use Rattle.ring.specs.Replay.{laidAt}
 use Rattle.rules.specs.declared.codes.Numbers.{Numbers}
 use Rattle.rules.specs.declared.state.Action.{Action}
 use Rattle.rules.specs.declared.state.Answer.{Answer}
 use Rattle.rules.specs.declared.state.Answer.the-variants.{Accepted}
-use Rattle.rules.specs.State.{State}
 use Rattle.rules.specs.declared.actions.Coded.the-variants.{Whole}
 use Rattle.rules.proofs.actions.Laws.{whole-moves, decoded-whole}
-use Rattle.ring.proofs.change.Laws.{change-acts}
 use Rattle.rules.proofs.runs.Reached.{reached-shape}
+use Rattle.ring.proofs.change.Laws.{change-acts}
 
 -- ---- a list of actions, and one more
 

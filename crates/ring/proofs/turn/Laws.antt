@@ -18,8 +18,8 @@ use Rattle.rules.specs.State.{reading, slotIndex, wordAt, placesReader, placesP
 use Rattle.rules.specs.Words.{pageIn, wordOf}
 use Rattle.rules.specs.Shape.{placesFit, countsFit, readerFits, wordsFit, usedFit, inShape}
 use Rattle.rules.specs.Read.{readLimit, planRead, fetched}
-use Rattle.ring.specs.Pieces.{readAnswer, readPlaces, readPhase, readStores, wordsStored, usedStored, StoresPrecondition}
 use Rattle.rules.specs.Drain.{eventNumber, DrainOutcome, drainEnds, eventFirst, afterRead, readsInRow, drainReads}
+use Rattle.ring.specs.Pieces.{readAnswer, readPlaces, readPhase, readStores, wordsStored, usedStored, StoresPrecondition}
 use Rattle.ring.specs.Turn.{eventAt, eventsFrom, smaller, eventCount, placesBefore, leftAfter, turn, turnOf, turned, TurnPrecondition}
 use Rattle.rules.specs.declared.state.PageNo.{PageNo}
 use Rattle.rules.specs.declared.state.Places.{Places}
@@ -37,7 +37,7 @@ use Rattle.rules.proofs.shape.Laws.{InShape, in-shape, pages-true, places-true,
 use Rattle.rules.proofs.state.Laws.{slotIndex-room}
 use Rattle.ring.proofs.pieces.Laws.{read-stores-precondition}
 use Rattle.ring.proofs.read.Laws.{Planned, limit-fits, next-fits, planned, plan-fits, event-here}
-use Rattle.rules.proofs.read.Kept.{Parts, parts, reshaped, word-fits, set-word, no-used}
+use Rattle.ring.proofs.read.Kept.{Parts, parts, reshaped, word-fits, set-word, no-used}
 
 -- ---- what is left of a drain
 

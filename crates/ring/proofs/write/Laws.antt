@@ -20,8 +20,8 @@ use Rattle.rules.specs.declared.moves.Search.{Search}
 use Rattle.rules.specs.declared.moves.Search.the-variants.{At, Nowhere}
 use Rattle.rules.specs.declared.moves.Verdict.the-variants.{Allowed}
 use Rattle.rules.proofs.Lists.{by-bool, by-cond}
-use Rattle.ring.proofs.moves.Laws.{refused-is-not-allowed}
 use Rattle.rules.proofs.shape.Laws.{InShape, pages-fit, held-fits}
+use Rattle.ring.proofs.moves.Laws.{refused-is-not-allowed}
 
 pub record Allows (fits : Bool) (depth : ℕ) : Type 0 where
   pub shape : fits ≡ true

@@ -1,20 +1,16 @@
 -- The actions that some bytes are, one after the other: where a whole action stands it comes first, and the rest is what follows it; where none stands,
 -- nothing follows: `decodes`. Assumes nothing.
 use mathlib.Core.Path.{_≡_, refl, subst, ap, _∙_}
-use mathlib.Core.Logic.{inl, inr}
-use mathlib.Core.List.{List, [], _∷_}
+use mathlib.Core.List.{List, []}
 use Prim.Native.Nat.{ℕ, zero, suc, _-_, _<_, _≤_}
 use native.Mathlib.Omega.{arith}
 use borrow.Author.Tests.{leb-true, leb-false, ltb-false, le-leb}
-use types.Run.{OneOf}
-use denote.Enum.Declared.{tagOf}
 use lib.Dec.{eqb, leb, ltb}
 use lib.ListN.{length}
+use Rattle.rules.specs.Actions.{Decoded, beginCode, writeCode, readCode, beginLength, byteAt, beginAt, codedAt, stopped, actionFirst, goOn, decodedWithin, decodedFrom, Stops, Decodes}
 use Rattle.rules.specs.declared.state.Action.{Action}
 use Rattle.rules.specs.declared.actions.Coded.{Coded}
 use Rattle.rules.specs.declared.actions.Coded.the-variants.{Whole, Broken, End}
-use Rattle.rules.specs.Actions.{Decoded, beginCode, writeCode, readCode, beginLength, byteAt, beginAt, codedAt, stopped, actionFirst, goOn, decodedWithin, decodedFrom, Stops, Decodes}
-use Rattle.rules.proofs.actions.Coded.{the-type}
 use Rattle.rules.proofs.Lists.{by-cond}
 
 -- a whole action has a byte at least, and ends within the bytes
@@ -73,13 +69,6 @@ module _ (bytes : List ℕ) where
   pub stop-within : (at : ℕ) → at ≤ length bytes → decodedFrom bytes at .stop ≤ length bytes
   unfolding decodedFrom
   stop-within at l = within-stops (length bytes - at) at l
-
--- no whole action stands there, where the code has told so by the numbers of the variants
-pub stops-of-numbers : (c : Coded) → OneOf (1 ∷ 2 ∷ []) (tagOf the-type c) → Stops c
-stops-of-numbers (Whole a next) (inl o) = absurd (omega arith)
-stops-of-numbers (Whole a next) (inr o) = absurd (omega arith)
-stops-of-numbers Broken o = tt
-stops-of-numbers End o = tt
 
 module _ (bytes : List ℕ) (at : ℕ) where
   one-more : decodedFrom bytes at ≡ goOn (codedAt bytes at) (decodedFrom bytes) at

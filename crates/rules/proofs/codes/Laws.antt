@@ -5,13 +5,13 @@ use mathlib.Core.List.{[], _∷_}
 use Prim.Native.Nat.{ℕ, _<_}
 use native.Mathlib.Omega.{arith}
 use lib.ListN.{length, take}
+use Rattle.rules.specs.Answers.{told}
+use Rattle.rules.specs.Codes.{kinds, refusalCode, numbersOf, answerOf}
 use Rattle.rules.specs.declared.state.Refusal.{Refusal}
 use Rattle.rules.specs.declared.state.Refusal.the-variants.{Shape, Depth, Nobody, Worn, SetUp, Mark, Version, Sizes, Action, Room}
 use Rattle.rules.specs.declared.state.Answer.{Answer}
 use Rattle.rules.specs.declared.state.Answer.the-variants.{Accepted, Begun, Reserved, Looked, Dropped, Marked, Shared, Retry, Promoted, Standing, Cleared, Pushed, Passed, Filled, Committed, Pending, Event, Empty, Found, Busy, Prepared, Swapped, Missed, Refused}
 use Rattle.rules.specs.declared.codes.Numbers.{Numbers}
-use Rattle.rules.specs.Answers.{told}
-use Rattle.rules.specs.Codes.{kinds, refusalCode, numbersOf, answerOf}
 
 -- the code in an answer as numbers
 abbrev pub code-of : Numbers → ℕ

@@ -11,10 +11,10 @@ use Rattle.rules.specs.Receipt.{receiptOf}
 use Rattle.rules.specs.Remember.{History}
 use Rattle.rules.specs.History.{Run}
 use Rattle.rules.specs.Demand.{HandedOut, Claim, HandedOutOf, AllHandedOut, CompleteClaim}
+use Rattle.rules.specs.State.{State}
 use Rattle.rules.specs.declared.state.WriterPhase.{WriterPhase}
 use Rattle.rules.specs.declared.state.WriterPhase.the-variants as phase
 use Rattle.rules.specs.declared.state.Writer.{Writer}
-use Rattle.rules.specs.State.{State}
 use Rattle.rules.proofs.Lists.{by-eq}
 use Rattle.rules.proofs.invariant.Order.{phaseAt}
 use Rattle.rules.proofs.invariant.Accounts.{nthReading, Ordered, early, earlies, workerAt}

@@ -9,12 +9,12 @@ use lib.ListN.{getD}
 use Rattle.rules.specs.Limits.{leastPages, mostPages, leastSlots, mostSlots, mostDepth, mostCount, stopMode, bothFlags}
 use Rattle.rules.specs.Shape.{sizeTests, sizeFits, placesFit, countsFit, pagesFit, heldTests, heldFits, writerFits, readerFits, recordFitsAt, stackFits, wordFitsAt, wordsFit, usedFitsAt, usedFit, numberFits, numbersFit, layoutTests, layoutFits, inShape}
 use Rattle.rules.specs.Remember.{History}
+use Rattle.rules.specs.State.{State}
 use Rattle.rules.specs.declared.state.PageNo.{PageNo}
 use Rattle.rules.specs.declared.state.WriterPhase.{WriterPhase}
 use Rattle.rules.specs.declared.state.WriterPhase.the-variants as phase
 use Rattle.rules.specs.declared.state.ReaderPhase.{ReaderPhase}
 use Rattle.rules.specs.declared.state.ReaderPhase.the-variants as reading
-use Rattle.rules.specs.State.{State}
 use Rattle.rules.proofs.Lists.{by-eq, and-both, every-each, allBelow-all, all-getD}
 use Rattle.rules.proofs.invariant.Order.{N, S, R, C, nextOf, flagOf, usedOf, phaseAt, storedAt, place}
 use Rattle.rules.proofs.invariant.Control.{Moving, RecordOk, ReaderOk, Control}

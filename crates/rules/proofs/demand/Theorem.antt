@@ -6,8 +6,8 @@ use Rattle.rules.specs.Shape.{inShape}
 use Rattle.rules.specs.Receipt.{receiptOf, receiptRule}
 use Rattle.rules.specs.History.{Run}
 use Rattle.rules.specs.Demand.{Claim, CompleteClaim, RunClaim, Demand3}
-use Rattle.rules.specs.declared.state.Receipt.{Receipt}
 use Rattle.rules.specs.State.{State}
+use Rattle.rules.specs.declared.state.Receipt.{Receipt}
 use Rattle.rules.proofs.demand.Claim.{demand}
 use Rattle.rules.proofs.demand.Complete.{complete}
 use Rattle.rules.proofs.demand.Refusals.{sound}

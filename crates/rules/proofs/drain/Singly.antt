@@ -12,11 +12,11 @@ use Rattle.rules.specs.Read.{readRule}
 use Rattle.rules.specs.Replay.{stateAfter, answersOf, Reached}
 use Rattle.rules.specs.Limits.{mostInRow}
 use Rattle.rules.specs.Drain.{Kind, event, ending, quiet, kindOf, DrainOutcome, drainEnds, byKind, readsInRow, drainReads, drainRule, eventsAmong, lastOf, Singly}
+use Rattle.rules.specs.State.{State}
 use Rattle.rules.specs.declared.state.Action.{Action}
 use Rattle.rules.specs.declared.state.Action.the-variants.{Read}
 use Rattle.rules.specs.declared.state.Refusal.the-variants.{Shape}
 use Rattle.rules.specs.declared.state.Answer.the-variants as answer
-use Rattle.rules.specs.State.{State}
 use Rattle.rules.specs.declared.state.Last.{Last}
 use Rattle.rules.specs.declared.state.Last.the-variants.{None, Given}
 use Rattle.rules.proofs.Lists.{by-bool}

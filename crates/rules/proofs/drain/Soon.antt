@@ -8,8 +8,8 @@ use native.Mathlib.Omega.{arith}
 use Rattle.rules.specs.Answers.{Outcome}
 use Rattle.rules.specs.Read.{readRule}
 use Rattle.rules.specs.Drain.{Kind, event, ending, quiet, kindOf, DrainOutcome, drainEnds, eventFirst, byKind, afterRead, readsInRow, Brought, anEvent, anEmpty, aBusy}
-use Rattle.rules.specs.declared.state.Answer.{Answer}
 use Rattle.rules.specs.State.{State}
+use Rattle.rules.specs.declared.state.Answer.{Answer}
 use Rattle.rules.specs.declared.state.Last.{Last}
 use Rattle.rules.specs.declared.state.Last.the-variants.{Given}
 use Rattle.rules.proofs.runs.Reached.{RingOk}

@@ -4,10 +4,10 @@ use mathlib.Core.List.{List}
 use Prim.Native.Nat.{ℕ, _≤_, _<_}
 use lib.ListN.{getD}
 use Rattle.rules.specs.Limits.{mostCount, stopMode}
+use Rattle.rules.specs.State.{State}
 use Rattle.rules.specs.declared.state.WriterPhase.{WriterPhase}
 use Rattle.rules.specs.declared.state.WriterPhase.the-variants as phase
 use Rattle.rules.specs.declared.state.Writer.{Writer}
-use Rattle.rules.specs.State.{State}
 use Rattle.rules.proofs.invariant.Order.{N, R, nextOf, phaseAt}
 
 -- the page n that a MARK names is at most N

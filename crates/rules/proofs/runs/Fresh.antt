@@ -13,8 +13,8 @@ use Rattle.rules.specs.Limits.{leastPages, mostPages, leastSlots, mostSl
 use Rattle.rules.specs.Shape.{sizeTests, sizeFits}
 use Rattle.rules.specs.SetUp.{freshNext, freshFlag, freshWord, freshWords, freshRing}
 use Rattle.rules.specs.History.{nothing}
-use Rattle.rules.specs.declared.state.Size.{Size}
 use Rattle.rules.specs.State.{State}
+use Rattle.rules.specs.declared.state.Size.{Size}
 use Rattle.rules.proofs.Lists.{by-eq, by-lt, each, length-tabulate, getD-tabulate, zeros}
 use Rattle.rules.proofs.setup.Laws.{freshNext-pages, freshFlag-most}
 use Rattle.rules.proofs.invariant.Order.{nextOf, flagOf, Cycle, Links, place}

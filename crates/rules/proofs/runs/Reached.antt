@@ -10,8 +10,8 @@ use Rattle.rules.specs.Act.{act}
 use Rattle.rules.specs.Remember.{History}
 use Rattle.rules.specs.History.{Run, nothing, next, after}
 use Rattle.rules.specs.Replay.{stateAfter, Reached}
-use Rattle.rules.specs.declared.state.Action.{Action}
 use Rattle.rules.specs.State.{State}
+use Rattle.rules.specs.declared.state.Action.{Action}
 use Rattle.rules.proofs.demand.Shape.{invariant-inShape}
 use Rattle.rules.proofs.runs.Always.{after-invariant}
 use Rattle.rules.proofs.runs.Fresh.{fresh-invariant}

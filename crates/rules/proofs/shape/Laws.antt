@@ -1,24 +1,20 @@
--- What the test of shape tells: one record of named facts for a ring that passes it. And the two halves of the test: what the code tests,
--- and the slots' numbers, whose bound comes from their width.
+-- What the test of shape tells: one record of named facts for a ring that passes it.
 -- Assumes nothing.
 use mathlib.Core.Path.{_≡_}
-use mathlib.Core.Bool.{Bool, true, _&&_, and-true}
+use mathlib.Core.Bool.{true}
 use Prim.Native.Nat.{ℕ, _+_, _≤_, _<_}
 use native.Mathlib.Omega.{arith}
 use borrow.Author.Tests.{leb-true, ltb-true, le-leb}
-use mir.Syntax.{w32}
-use mir.Val.{Fits}
 use lib.Dec.{leb}
-use lib.ListN.{getD}
 use Rattle.rules.specs.Limits.{leastPages, mostPages, leastSlots, mostSlots, mostDepth, mostCount, stopMode}
 use Rattle.rules.specs.Lists.{allBelow}
 use Rattle.rules.specs.State.{page, usedAt, State}
-use Rattle.rules.specs.Shape.{sizeTests, placeTests, placesFit, smallTests, countsSmall, agreeTests, countsAgree, pageTests, pagesFit, heldTests, heldFits, readerFits, recordFitsAt, wordFitsAt, usedFitsAt, numberFits, numbersFit, countsFit, layoutTests, layoutFits, ringFits, inShape}
+use Rattle.rules.specs.Shape.{sizeTests, placeTests, placesFit, smallTests, countsSmall, agreeTests, countsAgree, pageTests, pagesFit, heldTests, heldFits, readerFits, recordFitsAt, wordFitsAt, usedFitsAt, numbersFit, countsFit, layoutTests, layoutFits, ringFits, inShape}
 use Rattle.rules.specs.declared.state.PageNo.{PageNo}
 use Rattle.rules.specs.declared.state.Size.{Size}
 use Rattle.rules.specs.declared.state.Places.{Places}
 use Rattle.rules.specs.declared.state.Counts.{Counts}
-use Rattle.rules.proofs.Lists.{each, every-each, and-left, and-right, and-both, allBelow-at, all-getD}
+use Rattle.rules.proofs.Lists.{each, every-each, and-left, and-right, and-both, allBelow-at}
 
 pub record InShape (r : State) : Type 0 where
   pub pages-least : leastPages ≤ r .size .pages
@@ -156,18 +152,3 @@ module _ (r : State) where
         word-at = λ i l. allBelow-at (wordFitsAt (r .words) (r .size .pages)) (r .size .pages + 1) i (e .1 .1 .1 .1 .0) (omega arith);
         used-at = λ i l. leb-true _ _ (allBelow-at (usedFitsAt (r .used) (r .size .slots)) (r .size .pages + 1) i (e .1 .1 .1 .1 .1 .0) (omega arith));
       }
-
-  -- numbers that are 32 bits wide meet their limit
-  numbers-fit : ((i : ℕ) → Fits w32 (getD (r .numbers) i 0)) → numbersFit (r .numbers) ≡ true
-  unfolding numbersFit
-  numbers-fit h = all-getD numberFits (r .numbers) (λ i. le-leb (getD (r .numbers) i 0) mostCount (omega (arith, h i)))
-
-  -- so what the code tests, counts and layout, is the whole definition
-  pub tested-inShape :
-      {counts layout : Bool} →
-      counts ≡ countsFit (r .counts) →
-      layout ≡ layoutFits (r .size) (r .places) (r .reader) (r .stack) (r .depth) (r .words) (r .used) →
-      ((i : ℕ) → Fits w32 (getD (r .numbers) i 0)) →
-      counts && layout ≡ inShape r
-  unfolding inShape
-  tested-inShape c l h = rw (numbers-fit h, and-true, c, l)

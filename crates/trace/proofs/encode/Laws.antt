@@ -12,11 +12,11 @@ use lib.Seq.{sets-eq}
 use Rattle.rules.specs.Limits.{mostPages, mostSlots, stopMode}
 use Rattle.rules.specs.State.{sizeOf}
 use Rattle.rules.specs.Shape.{sizeTests, sizeFits}
-use Rattle.rules.proofs.Lists.{by-cond, each}
 use Rattle.trace.specs.Header.{mostLength, firstAction}
 use Rattle.trace.specs.Encode.{put, placeFor, headerPlace}
 use Rattle.trace.specs.declared.parts.Put.{Put}
 use Rattle.trace.specs.declared.parts.Put.the-variants.{At, Refused}
+use Rattle.rules.proofs.Lists.{by-cond, each}
 
 -- ---- what an accepted set-up is
 
@@ -37,37 +37,37 @@ small pages slots mode h =
 -- ---- what is so where a call gives a place
 
 -- a fact of a place, and none of a refusal
-abbrev Given : (ℕ → Type 0) → Put → Type 0
-Given P (At next) = P next
-Given P (Refused why) = Unit {0}
+abbrev WherePut : (ℕ → Type 0) → Put → Type 0
+WherePut P (At next) = P next
+WherePut P (Refused why) = Unit {0}
 
 pub record Placed (capacity at count next : ℕ) : Type 0 where
   pub after : next ≡ at + count
   pub short : next ≤ mostLength
   pub fits : next ≤ capacity
 
-place-given : (capacity at count : ℕ) → Given (Placed capacity at count) (placeFor capacity at count)
-place-given capacity at count =
-    by-cond (Given (Placed capacity at count)) (ltb mostLength (at + count)) (λ _. tt)
-    (λ s. by-cond (Given (Placed capacity at count)) (ltb capacity (at + count)) (λ _. tt)
+place-put : (capacity at count : ℕ) → WherePut (Placed capacity at count) (placeFor capacity at count)
+place-put capacity at count =
+    by-cond (WherePut (Placed capacity at count)) (ltb mostLength (at + count)) (λ _. tt)
+    (λ s. by-cond (WherePut (Placed capacity at count)) (ltb capacity (at + count)) (λ _. tt)
     (λ f. record { after = refl; short = ltb-false mostLength (at + count) s; fits = ltb-false capacity (at + count) f }))
 
 pub placed : {next : ℕ} (capacity at count : ℕ) → placeFor capacity at count ≡ At next → Placed capacity at count next
-placed capacity at count e = rw e at (place-given capacity at count)
+placed capacity at count e = rw e at (place-put capacity at count)
 
-pub record HeaderFits (capacity pages slots mode next : ℕ) : Type 0 where
+pub record HeaderPlaced (capacity pages slots mode next : ℕ) : Type 0 where
   pub after : next ≡ firstAction
   pub accepted : sizeFits (sizeOf pages slots mode) ≡ true
   pub fits : firstAction ≤ capacity
 
-header-given : (capacity pages slots mode : ℕ) → Given (HeaderFits capacity pages slots mode) (headerPlace capacity pages slots mode)
-header-given capacity pages slots mode =
-    by-cond (Given (HeaderFits capacity pages slots mode)) (not (sizeFits (sizeOf pages slots mode))) (λ _. tt)
-    (λ s. by-cond (Given (HeaderFits capacity pages slots mode)) (ltb capacity firstAction) (λ _. tt)
+header-put : (capacity pages slots mode : ℕ) → WherePut (HeaderPlaced capacity pages slots mode) (headerPlace capacity pages slots mode)
+header-put capacity pages slots mode =
+    by-cond (WherePut (HeaderPlaced capacity pages slots mode)) (not (sizeFits (sizeOf pages slots mode))) (λ _. tt)
+    (λ s. by-cond (WherePut (HeaderPlaced capacity pages slots mode)) (ltb capacity firstAction) (λ _. tt)
     (λ f. record { after = refl; accepted = not-false (sizeFits (sizeOf pages slots mode)) s; fits = ltb-false capacity firstAction f }))
 
-pub header-fits : {next : ℕ} (capacity pages slots mode : ℕ) → headerPlace capacity pages slots mode ≡ At next → HeaderFits capacity pages slots mode next
-header-fits capacity pages slots mode e = rw e at (header-given capacity pages slots mode)
+pub header-placed : {next : ℕ} (capacity pages slots mode : ℕ) → headerPlace capacity pages slots mode ≡ At next → HeaderPlaced capacity pages slots mode next
+header-placed capacity pages slots mode e = rw e at (header-put capacity pages slots mode)
 
 -- ---- a run of stores
 

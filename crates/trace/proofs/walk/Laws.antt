@@ -15,16 +15,16 @@ use Rattle.rules.specs.State.{sizeOf, State}
 use Rattle.rules.specs.Shape.{sizeFits}
 use Rattle.rules.specs.Actions.{Decoded, byteAt, decoded, Decodes}
 use Rattle.rules.specs.Replay.{answerNumbers, ranBuffer, bufferFits, bufferRule, refusedReplay, ran, replayRule, ReplayOutcome}
+use Rattle.trace.specs.Header.{modeOf, setUp, pagesAt, slotsAt, modeAt, setUpIn, headerRows, headerOf}
+use Rattle.trace.specs.Replays.{walkPlace, walkBytes, walkActions, wholeTo, walked, headerRing, replayedBy, replayedFrom, NineRight}
 use Rattle.rules.specs.declared.state.Refusal.{Refusal}
 use Rattle.rules.specs.declared.state.Refusal.the-variants as refusal
 use Rattle.rules.specs.declared.state.Answer.the-variants as answer
+use Rattle.trace.specs.declared.parts.Header.{Header}
+use Rattle.trace.specs.declared.parts.Header.the-variants.{Ready, Refused}
 use Rattle.rules.proofs.Lists.{by-cond, by-eq}
 use Rattle.rules.proofs.actions.Laws.{stop-within, decodes}
 use Rattle.rules.proofs.actions.Shift.{shifted, decoded-drop}
-use Rattle.trace.specs.Header.{modeOf, setUp, pagesAt, slotsAt, modeAt, setUpIn, headerRows, headerOf}
-use Rattle.trace.specs.Replays.{walkPlace, walkBytes, walkActions, wholeTo, walked, headerRing, replayedBy, replayedFrom, NineRight}
-use Rattle.trace.specs.declared.parts.Header.{Header}
-use Rattle.trace.specs.declared.parts.Header.the-variants.{Ready, Refused}
 
 pub place-within : (len at : ℕ) → walkPlace len at ≤ len
 place-within len at =

@@ -49,13 +49,14 @@ use denote.Triple.Spec.{Meets, tripleOf}
 use denote.Triple.Table.{entered, cited}
 use denote.Triple.Walked.{Stays, stay-dropped, stay-slice, walkOf, goes-dropped, goes-slice, Walks, ends-at, walked, walk-meets}
 use denote.Exit.{yes}
-use Rattle.ring.specs.declared.state.Ring.{Ring}
 use Rattle.rules.specs.declared.state.Last.{Last}
+use Rattle.ring.specs.declared.state.Ring.{Ring}
 use Rattle.ring.specs.declared.drain_part.DrainPart.{DrainPart}
-use Rattle.ring.proofs.state.Ring as R
-use Rattle.ring.proofs.state.Ring.Laws as R′
+use Rattle.cases.specs.declared.evening.Seen.{Seen}
 use Rattle.rules.proofs.state.Last as L
 use Rattle.rules.proofs.state.Last.Laws as L′
+use Rattle.ring.proofs.state.Ring as R
+use Rattle.ring.proofs.state.Ring.Laws as R′
 use Rattle.ring.proofs.drain_part.DrainPart as T
 use Rattle.ring.proofs.drain_part.DrainPart.Laws as T′
 use Rattle.ring.proofs.drain_part.Again.{LentAgain, lends-again}
@@ -63,7 +64,6 @@ use Rattle.ring.proofs.state.Ring.drain as drain
 use Rattle.ring.proofs.state.Ring.drain.Symbol as drain-def
 use Rattle.ring.proofs.state.Ring.drain.Symbol.{name as #drain}
 use Rattle.ring.proofs.state.Ring.drain.Met as drain-thm
-use Rattle.cases.specs.declared.evening.Seen.{Seen}
 use Rattle.cases.proofs.evening.Seen as S
 use Rattle.cases.proofs.evening.Seen.Laws as S′
 use Rattle.cases.proofs.evening.look_at as look-at

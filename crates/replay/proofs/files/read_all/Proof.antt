@@ -3,9 +3,9 @@ use borrow.Author.Needs.{needs}
 use mathlib.Core.Path.{_≡_}
 use Prim.Native.Nat.{_-_, _^_, _≤_, _<_}
 use lib.ListN.{length}
-use Rattle.io.proofs.Counting.{counts}
 use Rattle.replay.proofs.files.read_all.Statement.{statement}
 use Rattle.replay.proofs.files.read_all.Tie as tie
+use Rattle.io.proofs.Counting.{counts}
 
 abbrev Inv-loop : tie.InvT-loop
 Inv-loop fd bytes₀ done₀ bytes done = (length bytes ≡ length bytes₀) × (done ≤ length bytes) × (length bytes < 2 ^ 64)

@@ -8,7 +8,8 @@ use lib.ListN.{length}
 use lib.Seq.{sets, length-sets}
 use Rattle.rules.specs.Lists.{tabulate}
 use Rattle.ring.specs.Turn.{eventAt, eventsFrom}
-use Rattle.rules.proofs.Lists.{length-tabulate, sets-more}
+use Rattle.rules.proofs.Lists.{length-tabulate}
+use Rattle.ring.proofs.Loops.{sets-more}
 use Rattle.ring.proofs.drain.lay_events.Statement.{statement}
 use Rattle.ring.proofs.drain.lay_events.Tie as tie
 

@@ -6,8 +6,8 @@ use native.Mathlib.Omega.{arith}
 use borrow.Author.Needs.{needs}
 use denote.Ref.{now}
 use Rattle.ring.specs.Pieces.{readStores}
-use Rattle.ring.specs.declared.pieces.Stores.the-variants.{Same}
 use Rattle.rules.specs.declared.moves.Fetch.{Fetch}
+use Rattle.ring.specs.declared.pieces.Stores.the-variants.{Same}
 use Rattle.ring.proofs.moves.Laws.{fetch-of-numbers}
 use Rattle.ring.proofs.pieces.read_stores.Statement.{statement}
 use Rattle.ring.proofs.pieces.read_stores.Tie as tie

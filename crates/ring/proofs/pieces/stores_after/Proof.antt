@@ -6,8 +6,8 @@ use native.Mathlib.Omega.{arith}
 use borrow.Author.Needs.{needs}
 use denote.Ref.{now}
 use Rattle.ring.specs.Pieces.{storesAfter}
-use Rattle.ring.specs.declared.pieces.Stores.the-variants.{Same}
 use Rattle.rules.specs.declared.moves.Move.{Move}
+use Rattle.ring.specs.declared.pieces.Stores.the-variants.{Same}
 use Rattle.ring.proofs.moves.Laws.{of-numbers}
 use Rattle.ring.proofs.pieces.stores_after.Statement.{statement}
 use Rattle.ring.proofs.pieces.stores_after.Tie as tie

@@ -4,7 +4,7 @@ use native.Mathlib.Omega.{arith}
 use borrow.Author.Needs.{needs}
 use borrow.Author.Tests.{le-leb, lt-leb}
 use Rattle.rules.specs.Shape.{recordFitsAt}
-use Rattle.rules.proofs.Lists.{Tested, tested-none, tested-more, tested-end}
+use Rattle.ring.proofs.Loops.{Tested, tested-none, tested-more, tested-end}
 use Rattle.ring.proofs.shape.stack_fits.Statement.{statement}
 use Rattle.ring.proofs.shape.stack_fits.Tie as tie
 

@@ -4,7 +4,7 @@ use Prim.Native.Nat.{_+_, _-_, _≤_}
 use native.Mathlib.Omega.{arith}
 use borrow.Author.Needs.{needs}
 use Rattle.rules.specs.Shape.{usedFitsAt}
-use Rattle.rules.proofs.Lists.{Tested, tested-none, tested-more, tested-end}
+use Rattle.ring.proofs.Loops.{Tested, tested-none, tested-more, tested-end}
 use Rattle.ring.proofs.shape.used_fit.Statement.{statement}
 use Rattle.ring.proofs.shape.used_fit.Tie as tie
 

@@ -4,7 +4,7 @@ use Prim.Native.Nat.{_+_, _-_, _≤_}
 use native.Mathlib.Omega.{arith}
 use borrow.Author.Needs.{needs}
 use Rattle.rules.specs.Words.{heads}
-use Rattle.rules.proofs.Lists.{Unseen, unseen-none, unseen-more, unseen-seen, unseen-end}
+use Rattle.ring.proofs.Loops.{Unseen, unseen-none, unseen-more, unseen-seen, unseen-end}
 use Rattle.ring.proofs.words.find_header.Statement.{statement}
 use Rattle.ring.proofs.words.find_header.Tie as tie
 

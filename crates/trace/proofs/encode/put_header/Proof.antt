@@ -4,7 +4,7 @@ use mathlib.Core.Path.{refl, sym, _∙_}
 use native.Mathlib.Omega.{arith}
 use borrow.Author.Needs.{needs}
 use lib.ListN.{length}
-use Rattle.trace.proofs.encode.Laws.{Small, small, HeaderFits, header-fits}
+use Rattle.trace.proofs.encode.Laws.{Small, small, HeaderPlaced, header-placed}
 use Rattle.trace.proofs.encode.put_header.Statement.{statement}
 use Rattle.trace.proofs.encode.put_header.Tie as tie
 
@@ -19,8 +19,8 @@ placed-at c = c .before .before .before .before
 fits :
     (c : tie.After-store-header-arg) →
     let a = start (placed-at c) .args in
-    HeaderFits (length (a .out .now)) (a .pages) (a .slots) (a .mode) (c .before .before .place .given .0 .0)
-fits c = header-fits _ _ _ _ (sym (placed-at c .header-place .ensures) ∙ c .before .before .place .given .1)
+    HeaderPlaced (length (a .out .now)) (a .pages) (a .slots) (a .mode) (c .before .before .place .given .0 .0)
+fits c = header-placed _ _ _ _ (sym (placed-at c .header-place .ensures) ∙ c .before .before .place .given .1)
 
 narrow :
     (c : tie.After-store-header-arg) →

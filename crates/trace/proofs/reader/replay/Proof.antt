@@ -38,14 +38,14 @@ use denote.Triple.Spec.{Meets, tripleOf}
 use denote.Triple.Table.{entered, cited}
 use denote.Triple.Walked.{says, Stays, stay-none-slice, gave-slice, walkOf, goes-none-slice, goes-gave-slice, Walks, ends-at, walked, walk-meets}
 use denote.Exit.{yes}
-use Rattle.ring.specs.declared.state.Replay.{Replay}
-use Rattle.ring.proofs.state.Replay as R
-use Rattle.ring.proofs.state.Replay.Laws as R′
-use Rattle.trace.specs.Header.{firstAction}
 use Rattle.rules.specs.Replay.{ReplayOutcome}
 use Rattle.ring.specs.Replay.{replayOutcome}
+use Rattle.trace.specs.Header.{firstAction}
 use Rattle.trace.specs.Replays.{replayedFrom, bufferFrom}
+use Rattle.ring.specs.declared.state.Replay.{Replay}
 use Rattle.trace.specs.declared.reader.TraceReader.{TraceReader}
+use Rattle.ring.proofs.state.Replay as R
+use Rattle.ring.proofs.state.Replay.Laws as R′
 use Rattle.trace.proofs.reader.TraceReader as T
 use Rattle.trace.proofs.reader.TraceReader.Laws as T′
 use Rattle.trace.proofs.reader.Held.{Row, slice, Bytes, twice-bytes}

@@ -10,10 +10,10 @@ use lib.ListN.{length, take, drop}
 use Rattle.rules.specs.Actions.{Decoded, decoded}
 use Rattle.rules.specs.Replay.{ranBuffer, bufferFits, bufferRule, ran, replayRule, ReplayOutcome}
 use Rattle.ring.specs.Replay.{replayOutcome}
-use Rattle.rules.proofs.actions.Shift.{shifted}
 use Rattle.trace.specs.Header.{headerOf}
 use Rattle.trace.specs.Replays.{walkPlace, walkBytes, walkActions, walked, toldFrom, headerRing, replayedFrom, bufferFrom}
 use Rattle.trace.specs.declared.parts.Header.the-variants.{Ready}
+use Rattle.rules.proofs.actions.Shift.{shifted}
 use Rattle.trace.proofs.walk.Laws.{place-within, ready-fits, buffer-short, buffer-enough, walk-part, walk-same, walk-stop, rule-runs, rule-fills}
 use Rattle.trace.proofs.walk.replay_from.Statement.{statement}
 use Rattle.trace.proofs.walk.replay_from.Tie as tie

@@ -8,11 +8,12 @@ use borrow.Author.Needs.{needs}
 use mir.Syntax.{w32}
 use mir.Val.{Fits}
 use lib.ListN.{getD}
-use Rattle.ring.specs.Ring.{stateOf}
 use Rattle.rules.specs.Shape.{inShape}
 use Rattle.rules.specs.Refusals.{beginVerdict}
 use Rattle.rules.specs.State.{State}
-use Rattle.rules.proofs.shape.Laws.{InShape, in-shape, tested-inShape}
+use Rattle.ring.specs.Ring.{stateOf}
+use Rattle.rules.proofs.shape.Laws.{InShape, in-shape}
+use Rattle.ring.proofs.shape.Laws.{tested-inShape}
 use Rattle.ring.proofs.begin.Laws.{Allows, allows}
 use Rattle.ring.proofs.state.Ring.begin.Statement.{statement}
 use Rattle.ring.proofs.state.Ring.begin.Tie as tie

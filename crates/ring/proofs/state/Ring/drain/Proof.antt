@@ -50,15 +50,15 @@ use denote.Triple.Walked.{says, Stays, stay-dropped, walkOf, goes-dropped, goes-
 use denote.Exit.{yes, no}
 use Rattle.rules.specs.Drain.{DrainOutcome, drainRule}
 use Rattle.ring.specs.Ring.{stateOf}
-use Rattle.ring.proofs.Representation.{ringOf}
-use Rattle.ring.specs.Drain.{Counted, bufferAfter}
-use Rattle.ring.proofs.drain.Laws.{drainCount, counted-is}
+use Rattle.ring.specs.Drain.{CountMatches, bufferAfter}
 use Rattle.ring.specs.declared.state.Ring.{Ring}
 use Rattle.ring.specs.declared.state.DrainCount.{DrainCount}
 use Rattle.ring.specs.declared.drain_part.DrainPart.{DrainPart}
+use Rattle.rules.proofs.state.Last.Laws as L′
+use Rattle.ring.proofs.Representation.{ringOf}
+use Rattle.ring.proofs.drain.Laws.{drainCount, count-is}
 use Rattle.ring.proofs.state.Ring as R
 use Rattle.ring.proofs.state.Ring.Laws as R′
-use Rattle.rules.proofs.state.Last.Laws as L′
 use Rattle.ring.proofs.state.DrainCount as F
 use Rattle.ring.proofs.state.DrainCount.Laws as F′
 use Rattle.ring.proofs.drain_part.DrainPart as T
@@ -172,9 +172,9 @@ module _ {M : Type 1} (𝓤 : URA M) (H : Heap 𝓤) (A : Atoms 𝓤) (W : Given
   -- of its `ensured`: what it returns, and the buffer's last list
   into-said : (ν : ℕ) (δ : GName) (f : DrainCount) → ent 𝓤 (ensured 𝓤 H A into.ended (into.clauses 𝓤 H A mem run) (ν ∷ [], tt) (r, (x δ ys, tt)) tt f) (guard 𝓤 ((f ≡ made-count) × (length left ≡ length ys)) (sem 𝓤 H A (finally u64 δ left)))
   into-said ν δ f =
-      qed W (some (λ (ws : Unit {0} × (List ℕ × Unit {0})). ‵ (lasts into.ended (ν ∷ [], tt) (r, (x δ ys, tt)) ws) ⊛ raw (fact 𝓤 (Counted found f × (ws .1 .0 ≡ left)))) ∷ []) ∵ pick ! (λ ws.
-      split ! $ move ! (1 ∷ []) $ heard ! (Counted found f × (ws .1 .0 ≡ left)) (λ e. fsplit ! $ move ! (1 ∷ []) $ fsplit ! $ fsplit ! $ move ! (1 ∷ []) $ feqL ! (λ l.
-      keep ! (0 ∷ []) $ rewrite ! 0 (λ (zs : List ℕ). ‵ (finally u64 δ zs)) (e .1) refl $ check ! (counted-is found f (e .0), ap length (sym (e .1)) ∙ l) $ done !)))
+      qed W (some (λ (ws : Unit {0} × (List ℕ × Unit {0})). ‵ (lasts into.ended (ν ∷ [], tt) (r, (x δ ys, tt)) ws) ⊛ raw (fact 𝓤 (CountMatches found f × (ws .1 .0 ≡ left)))) ∷ []) ∵ pick ! (λ ws.
+      split ! $ move ! (1 ∷ []) $ heard ! (CountMatches found f × (ws .1 .0 ≡ left)) (λ e. fsplit ! $ move ! (1 ∷ []) $ fsplit ! $ fsplit ! $ move ! (1 ∷ []) $ feqL ! (λ l.
+      keep ! (0 ∷ []) $ rewrite ! 0 (λ (zs : List ℕ). ‵ (finally u64 δ zs)) (e .1) refl $ check ! (count-is found f (e .0), ap length (sym (e .1)) ∙ l) $ done !)))
 
   -- the call of `prefix`: the buffer for good, at the list that `drain_into` left
   abbrev to-prefix : Prefix 𝓤 H A mem run .Ghost

@@ -8,10 +8,10 @@ use borrow.Author.Tests.{not-true, not-false}
 use mir.Syntax.{w32}
 use mir.Val.{Fits}
 use lib.ListN.{getD}
-use Rattle.ring.specs.Ring.{stateOf}
 use Rattle.rules.specs.Shape.{inShape}
 use Rattle.rules.specs.State.{State}
-use Rattle.rules.proofs.shape.Laws.{tested-inShape}
+use Rattle.ring.specs.Ring.{stateOf}
+use Rattle.ring.proofs.shape.Laws.{tested-inShape}
 use Rattle.ring.proofs.state.Ring.drain_into.Statement.{statement}
 use Rattle.ring.proofs.state.Ring.drain_into.Tie as tie
 

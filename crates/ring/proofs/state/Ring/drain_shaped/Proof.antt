@@ -9,12 +9,12 @@ use borrow.Author.Needs.{needs}
 use borrow.Author.Tests.{ltb-true, leb-true}
 use lib.Dec.{ltb}
 use lib.ListN.{length}
-use Rattle.ring.specs.Ring.{stateOf}
 use Rattle.rules.specs.Limits.{slotRoom, mostInRow}
 use Rattle.rules.specs.Shape.{inShape}
+use Rattle.rules.specs.State.{State}
+use Rattle.ring.specs.Ring.{stateOf}
 use Rattle.ring.specs.Pieces.{StoresPrecondition}
 use Rattle.ring.specs.Turn.{turnOf}
-use Rattle.rules.specs.State.{State}
 use Rattle.ring.specs.declared.turn.Turn.{Turn}
 use Rattle.rules.proofs.Lists.{and-three}
 use Rattle.rules.proofs.shape.Laws.{in-shape}

@@ -5,7 +5,7 @@ use mir.Syntax.{w32}
 use mir.Val.{Fits}
 use lib.ListN.{getD}
 use Rattle.ring.specs.Ring.{stateOf}
-use Rattle.rules.proofs.shape.Laws.{tested-inShape}
+use Rattle.ring.proofs.shape.Laws.{tested-inShape}
 use Rattle.ring.proofs.state.Ring.in_shape.Statement.{statement}
 use Rattle.ring.proofs.state.Ring.in_shape.Tie as tie
 

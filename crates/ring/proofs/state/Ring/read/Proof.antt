@@ -9,16 +9,17 @@ use borrow.Author.Needs.{needs}
 use mir.Syntax.{w32}
 use mir.Val.{Fits}
 use lib.ListN.{getD}
-use Rattle.ring.specs.Ring.{stateOf}
 use Rattle.rules.specs.Limits.{mostPages}
 use Rattle.rules.specs.Refusals.{readVerdict}
 use Rattle.rules.specs.Shape.{inShape}
 use Rattle.rules.specs.Read.{planRead, readRule}
-use Rattle.ring.specs.Pieces.{StoresPrecondition, FetchPrecondition}
 use Rattle.rules.specs.State.{State}
+use Rattle.ring.specs.Ring.{stateOf}
+use Rattle.ring.specs.Pieces.{StoresPrecondition, FetchPrecondition}
 use Rattle.ring.specs.declared.pieces.Stores.{Stores}
 use Rattle.ring.specs.declared.pieces.Stores.the-variants.{Same}
-use Rattle.rules.proofs.shape.Laws.{InShape, in-shape, tested-inShape}
+use Rattle.rules.proofs.shape.Laws.{InShape, in-shape}
+use Rattle.ring.proofs.shape.Laws.{tested-inShape}
 use Rattle.ring.proofs.read.Laws.{allows, plan-fits, event-fits}
 use Rattle.ring.proofs.pieces.Laws.{readLeaves, read-leaves, read-stores-precondition, read-stores-same}
 use Rattle.ring.proofs.state.Ring.read.Statement.{statement}

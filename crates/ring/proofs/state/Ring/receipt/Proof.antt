@@ -7,11 +7,11 @@ use borrow.Author.Needs.{needs}
 use mir.Syntax.{w32}
 use mir.Val.{Fits}
 use lib.ListN.{getD}
-use Rattle.ring.specs.Ring.{stateOf}
 use Rattle.rules.specs.Shape.{inShape}
 use Rattle.rules.specs.State.{State}
+use Rattle.ring.specs.Ring.{stateOf}
 use Rattle.rules.proofs.Lists.{and-left}
-use Rattle.rules.proofs.shape.Laws.{tested-inShape}
+use Rattle.ring.proofs.shape.Laws.{tested-inShape}
 use Rattle.ring.proofs.state.Ring.receipt.Statement.{statement}
 use Rattle.ring.proofs.state.Ring.receipt.Tie as tie
 

@@ -6,13 +6,13 @@ use mathlib.Core.List.{[]}
 use native.Mathlib.Omega.{arith}
 use borrow.Author.Needs.{needs}
 use borrow.Author.Tests.{not-true, not-false, lt-ltb, le-ltb}
-use Rattle.ring.specs.Ring.{stateOf}
 use Rattle.rules.specs.State.{sizeOf, State}
 use Rattle.rules.specs.Answers.{Outcome}
 use Rattle.rules.specs.Shape.{sizeFits}
 use Rattle.rules.specs.SetUp.{freshRing}
 use Rattle.rules.specs.Actions.{decoded}
 use Rattle.rules.specs.Replay.{ranBuffer, ran}
+use Rattle.ring.specs.Ring.{stateOf}
 use Rattle.rules.proofs.runs.Always.{fresh-is}
 use Rattle.ring.proofs.state.Ring.replay.Statement.{statement}
 use Rattle.ring.proofs.state.Ring.replay.Tie as tie

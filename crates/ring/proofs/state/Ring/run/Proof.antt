@@ -5,19 +5,20 @@ use Prim.Native.Nat.{ℕ, _+_, _*_, _^_, _-_, _≤_, _<_}
 use native.Mathlib.Omega.{arith}
 use borrow.Author.Needs.{needs}
 use lib.ListN.{length}
-use Rattle.ring.specs.Ring.{stateOf}
 use Rattle.rules.specs.Limits.{mostDepth}
 use Rattle.rules.specs.Actions.{codedAt}
 use Rattle.rules.specs.Replay.{answerNumbers}
+use Rattle.rules.specs.State.{State}
+use Rattle.ring.specs.Ring.{stateOf}
 use Rattle.ring.specs.Replay.{laidAt}
 use Rattle.ring.specs.Pieces.{StoresPrecondition}
 use Rattle.ring.specs.Change.{changeOf, changed}
 use Rattle.rules.specs.declared.state.Action.{Action}
-use Rattle.rules.specs.State.{State}
-use Rattle.ring.specs.declared.change.Change.{Change}
 use Rattle.rules.specs.declared.actions.Coded.the-variants.{Whole}
-use Rattle.rules.proofs.actions.Laws.{whole-moves, decoded-stops, stops-of-numbers}
+use Rattle.ring.specs.declared.change.Change.{Change}
+use Rattle.rules.proofs.actions.Laws.{whole-moves, decoded-stops}
 use Rattle.rules.proofs.shape.Laws.{InShape, in-shape}
+use Rattle.ring.proofs.moves.Laws.{stops-of-numbers}
 use Rattle.ring.proofs.change.Laws.{change-precondition, change-top, change-stores}
 use Rattle.ring.proofs.replay.Laws.{Progress, start as nothing-done, shaped, buffer-length, turn, finish}
 use Rattle.ring.proofs.state.Ring.run.Statement.{statement}

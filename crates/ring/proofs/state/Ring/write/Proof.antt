@@ -9,15 +9,16 @@ use borrow.Author.Needs.{needs}
 use mir.Syntax.{w32}
 use mir.Val.{Fits}
 use lib.ListN.{getD}
-use Rattle.ring.specs.Ring.{stateOf}
 use Rattle.rules.specs.Limits.{mostPages, slotRoom}
 use Rattle.rules.specs.State.{top, State}
 use Rattle.rules.specs.Refusals.{writeVerdict}
 use Rattle.rules.specs.Shape.{inShape}
 use Rattle.rules.specs.Write.{planWrite, writeRule}
+use Rattle.ring.specs.Ring.{stateOf}
 use Rattle.ring.specs.Pieces.{StoresPrecondition, MovePrecondition}
 use Rattle.ring.specs.declared.pieces.Stores.{Stores}
-use Rattle.rules.proofs.shape.Laws.{InShape, in-shape, tested-inShape}
+use Rattle.rules.proofs.shape.Laws.{InShape, in-shape}
+use Rattle.ring.proofs.shape.Laws.{tested-inShape}
 use Rattle.ring.proofs.write.Laws.{Allows, allows, top-fits, plan-fits}
 use Rattle.ring.proofs.pieces.Laws.{leaves, write-leaves, stores-precondition}
 use Rattle.ring.proofs.state.Ring.write.Statement.{statement}

@@ -39,13 +39,13 @@ use denote.Triple.Walked.{says, Stays, stay-none, walkOf, goes-none, Walks, ends
 use denote.Exit.{yes}
 use Rattle.rules.specs.Actions.{codedAt}
 use Rattle.rules.specs.declared.actions.Coded.{Coded}
+use Rattle.trace.specs.declared.reader.TraceReader.{TraceReader}
 use Rattle.rules.proofs.actions.Coded as S
 use Rattle.rules.proofs.actions.Coded.Laws as S′
 use Rattle.ring.proofs.actions.action_at as action
 use Rattle.ring.proofs.actions.action_at.Symbol as action-def
 use Rattle.ring.proofs.actions.action_at.Symbol.{name as #action-at}
 use Rattle.ring.proofs.actions.action_at.Met as action-thm
-use Rattle.trace.specs.declared.reader.TraceReader.{TraceReader}
 use Rattle.trace.proofs.reader.TraceReader.Laws as T′
 use Rattle.trace.proofs.reader.Held.{Row, Reads, laws, slice, Bytes, Own, apart}
 use Rattle.trace.proofs.reader.TraceReader.item.Key.{name as #item}
