@@ -9,7 +9,7 @@ use mathlib.Core.List.{List, [], _∷_}
 use Prim.Native.Nat.{ℕ}
 use Rattle.rules.specs.Answers.{told}
 use Rattle.rules.specs.Shape.{inShape}
-use Rattle.rules.specs.History.{Run, recall, valueIn, nothing}
+use Rattle.rules.specs.History.{Run, runAt, recall, valueIn, nothing}
 use Rattle.rules.specs.Demand.{Claim, CompleteClaim, listed}
 use Rattle.ring.specs.Ring.{stateOf}
 use Rattle.rules.specs.declared.state.Action.{Action}
@@ -37,16 +37,11 @@ ringAfter r (m ∷ rest) = ringAfter (m .step .ring) rest
 abbrev pub runTold : Run → List Made → Run
 runTold r [] = r
 runTold r (m ∷ rest) =
-    runTold
-    (record {
-      now = stateOf (m .step .ring);
-      past = recall (valueIn (m .action)) (r .now) (m .step .answer) (r .past);
-    })
-    rest
+    runTold (runAt (stateOf (m .step .ring)) (recall (valueIn (m .action)) (r .now) (m .step .answer) (r .past))) rest
 
 -- .. from the step of a set-up
 abbrev pub runFrom : Step → List Made → Run
-runFrom first made = runTold (record { now = stateOf (first .ring); past = nothing }) made
+runFrom first made = runTold (runAt (stateOf (first .ring)) nothing) made
 
 module _ (FreshGives : ℕ → ℕ → ℕ → Step → Type 0) (ActGives : Ring → Action → Step → Type 0) (ReceiptGives : Ring → Receipt → Type 0) where
   -- each call is given the ring that the last one returned

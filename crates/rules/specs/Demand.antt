@@ -16,7 +16,7 @@ use Rattle.rules.specs.Shape.{inShape}
 use Rattle.rules.specs.SetUp.{freshRule}
 use Rattle.rules.specs.Receipt.{receiptRule}
 use Rattle.rules.specs.Act.{act}
-use Rattle.rules.specs.Remember.{Numbered, ReadEvent, Overwriting, By, numbered, unbegun}
+use Rattle.rules.specs.Remember.{Numbered, ReadEvent, Overwriting, By, numbered, unbegun, readEvent}
 use Rattle.rules.specs.History.{Run, runOf}
 use Rattle.rules.specs.declared.state.PageNo.{PageNo}
 use Rattle.rules.specs.declared.state.Action.{Action}
@@ -85,7 +85,7 @@ pub record ReservedAt (readings : List Numbered) (m k : ℕ) : Type 0 where
 -- ---- the four places of a reading
 
 abbrev pub noEvent : ReadEvent
-noEvent = record { number = 0; value = 0 }
+noEvent = readEvent 0 0
 
 -- the k-th Event, from 0, gave the reading with number m
 pub record EventAt (events : List ReadEvent) (m k : ℕ) : Type 0 where

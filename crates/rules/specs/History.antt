@@ -9,7 +9,7 @@ use Rattle.rules.specs.State.{top, State}
 use Rattle.rules.specs.Words.{samePage}
 use Rattle.rules.specs.SetUp.{freshRule}
 use Rattle.rules.specs.Act.{act}
-use Rattle.rules.specs.Remember.{BegunWriter, Numbered, Marker, Unmarked, By, History, begunWriter, numbered, unbegun, history, withBegins, withWorking, withDroppers, withReadings, withEvents, withOverwritings, withMarker}
+use Rattle.rules.specs.Remember.{BegunWriter, Numbered, Marker, Unmarked, By, History, begunWriter, numbered, unbegun, readEvent, overwriting, history, withBegins, withWorking, withDroppers, withReadings, withEvents, withOverwritings, withMarker}
 use Rattle.rules.specs.declared.state.PageNo.{PageNo}
 use Rattle.rules.specs.declared.state.WriterPhase.{WriterPhase}
 use Rattle.rules.specs.declared.state.WriterPhase.the-variants as phase
@@ -55,7 +55,7 @@ abbrev pub onCommitted : History → History
 onCommitted h = onEnded (withReadings (allCommitted (h .readings)) h)
 
 abbrev pub onEvent : ℕ → ℕ → History → History
-onEvent number v h = withEvents (h .events ++ (record { number = number; value = v } ∷ [])) h
+onEvent number v h = withEvents (h .events ++ (readEvent number v ∷ [])) h
 
 -- the writer of the mark in t's word, the others as they were
 abbrev pub markedBy : PageNo → Marker → (PageNo → Marker) → PageNo → Marker
@@ -64,7 +64,7 @@ markedBy t x marker p = cond (samePage p t) x (marker p)
 -- t's word gets the update mark, and page n is taken
 abbrev pub onMark : PageNo → PageNo → State → History → History
 onMark t n r h =
-    withOverwritings (h .overwritings ++ (record { page = n; before = r; readings = h .readings } ∷ []))
+    withOverwritings (h .overwritings ++ (overwriting n r (h .readings) ∷ []))
     (withMarker (markedBy t (By (latest (h .working) .nth)) (h .marker)) h)
 
 -- t and n are those of the writer's MARK. No other phase is answered Marked; one that were would show in the claim, as a loss and a mark that nobody made.
@@ -118,16 +118,15 @@ pub record Run : Type 0 where
   pub now : State
   pub past : History
 
+abbrev pub runAt : State → History → Run
+runAt now past = record { now = now; past = past }
+
 abbrev pub nothing : History
 nothing = history 0 [] [] [] [] [] (λ p. Unmarked)
 
 -- "Each action gets the ring that the last one returned, and nobody else changes it meanwhile."
 abbrev pub next : Run → Action → Run
-next r a =
-    record {
-      now = act (r .now) a .state;
-      past = recall (valueIn a) (r .now) (act (r .now) a .answer) (r .past);
-    }
+next r a = runAt (act (r .now) a .state) (recall (valueIn a) (r .now) (act (r .now) a .answer) (r .past))
 
 -- "The list mixes Begins, Writes and Reads in any order, refused ones with the rest."
 abbrev pub after : Run → List Action → Run
@@ -136,4 +135,4 @@ after r (a ∷ rest) = after (next r a) rest
 
 -- "It starts from the ring that an accepted set-up gives": that the set-up is accepted is asked in the claim (specs/Demand)
 abbrev pub runOf : ℕ → ℕ → ℕ → List Action → Run
-runOf pages slots mode actions = after (record { now = freshRule pages slots mode .state; past = nothing }) actions
+runOf pages slots mode actions = after (runAt (freshRule pages slots mode .state) nothing) actions

@@ -63,6 +63,12 @@ numbered number own committed = record { number = number; own = own; committed =
 abbrev pub unbegun : BegunWriter
 unbegun = begunWriter 0 0
 
+abbrev pub readEvent : ℕ → ℕ → ReadEvent
+readEvent number value = record { number = number; value = value }
+
+abbrev pub overwriting : PageNo → State → List Numbered → Overwriting
+overwriting p before readings = record { page = p; before = before; readings = readings }
+
 abbrev pub history : ℕ → List BegunWriter → List BegunWriter → List Numbered → List ReadEvent → List Overwriting → (PageNo → Marker) → History
 history begins working droppers readings events overwritings marker =
     record {

@@ -6,10 +6,9 @@ use mathlib.Core.Path.{_≡_, refl, sym, ap, _∙_, subst}
 use mathlib.Core.List.{List, [], _∷_}
 use Prim.Native.Nat.{ℕ}
 use Rattle.rules.specs.Answers.{Outcome}
-use Rattle.rules.specs.State.{State}
 use Rattle.rules.specs.Receipt.{receiptRule}
 use Rattle.rules.specs.Remember.{History}
-use Rattle.rules.specs.History.{Run, after, runOf, nothing, recall, valueIn}
+use Rattle.rules.specs.History.{Run, runAt, after, runOf, nothing, recall, valueIn}
 use Rattle.rules.specs.Demand.{Claim, CompleteClaim, Sound, RunClaim}
 use Rattle.ring.specs.Ring.{stateOf, outcome}
 use Rattle.ring.specs.Code.{Made, asked, ringAfter, runTold, runFrom, Follow, CodeDemand3}
@@ -35,25 +34,22 @@ ReceiptGives r c = receipt-promise.Learnt tt (r, tt) c (r, tt)
 
 -- ---- the run of the code is the run of the rules
 
-abbrev run : State → History → Run
-run now past = record { now = now; past = past }
-
 -- the run that goes on by an outcome of action a
 abbrev by : Run → Action → Outcome → Run
-by r a o = run (o .state) (recall (valueIn a) (r .now) (o .answer) (r .past))
+by r a o = runAt (o .state) (recall (valueIn a) (r .now) (o .answer) (r .past))
 
 -- it ends in the state of the last ring
-last-told : (r : Ring) (past : History) (made : List Made) → stateOf (ringAfter r made) ≡ runTold (run (stateOf r) past) made .now
+last-told : (r : Ring) (past : History) (made : List Made) → stateOf (ringAfter r made) ≡ runTold (runAt (stateOf r) past) made .now
 last-told r past [] = refl
-last-told r past (m ∷ rest) = last-told (m .step .ring) (by (run (stateOf r) past) (m .action) (outcome (m .step)) .past) rest
+last-told r past (m ∷ rest) = last-told (m .step .ring) (by (runAt (stateOf r) past) (m .action) (outcome (m .step)) .past) rest
 
 told-after :
     (r : Ring) (past : History) (made : List Made) →
     Follow FreshGives ActGives ReceiptGives r made →
-    runTold (run (stateOf r) past) made ≡ after (run (stateOf r) past) (asked made)
+    runTold (runAt (stateOf r) past) made ≡ after (runAt (stateOf r) past) (asked made)
 told-after r past [] f = refl
 told-after r past (m ∷ rest) f =
-    let here = run (stateOf r) past in
+    let here = runAt (stateOf r) past in
     told-after (m .step .ring) (by here (m .action) (outcome (m .step)) .past) rest (f .1)
     ∙ ap (λ (o : Outcome). after (by here (m .action) o) (asked rest)) (f .0)
 
@@ -63,7 +59,7 @@ code-demand-3 pages slots mode first given accepted made follows c receipt =
     let last = ringAfter (first .ring) made in
     let now = last-told (first .ring) nothing made in
     let ruled : r ≡ runOf pages slots mode (asked made) =
-    told-after (first .ring) nothing made follows ∙ ap (λ (o : Outcome). after (run (o .state) nothing) (asked made)) given in
+    told-after (first .ring) nothing made follows ∙ ap (λ (o : Outcome). after (runAt (o .state) nothing) (asked made)) given in
     let rulesAccept = sym (ap (λ (o : Outcome). o .answer) given) ∙ accepted in
     let whole : RunClaim r = subst RunClaim (sym ruled) (demand-3 pages slots mode rulesAccept (asked made)) in
     let sound : Sound (stateOf last) = subst Sound (sym now) (whole .sound) in

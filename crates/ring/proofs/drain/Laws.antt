@@ -27,7 +27,7 @@ use Rattle.rules.proofs.shape.Laws.{in-shape}
 use Rattle.ring.proofs.Representation.{ringOf}
 use Rattle.ring.proofs.read.Kept.{parts, reshaped}
 use Rattle.ring.proofs.replay.Laws.{over-length, sets-over}
-use Rattle.ring.proofs.turn.Laws.{goOn, go-on, eventsFirst, handed-fits, Turned, turn-drains}
+use Rattle.ring.proofs.turn.Laws.{drainsOn, drains-on, eventsFirst, handed-fits, Turned, turn-drains}
 
 -- ---- the shape, and how many were handed out
 
@@ -79,7 +79,7 @@ pub record Progress (r0 : State) (buffer0 : List ℕ) (r : State) (buffer : List
   pub within : at ≤ length buffer0
   pub shape : inShape (withHanded 0 r) ≡ true
   pub agree : r .counts .handed + r .counts .overwritten ≤ r .counts .committed + 1
-  pub rest : whole r0 buffer0 ≡ eventsFirst events (goOn (length buffer0 - at) left r last)
+  pub rest : whole r0 buffer0 ≡ eventsFirst events (drainsOn (length buffer0 - at) left r last)
 
 pub start : (r : State) (buffer : List ℕ) → inShape r ≡ true → Progress r buffer r buffer 0 mostInRow None
 start r buffer h =
@@ -92,7 +92,7 @@ start r buffer h =
       within = omega arith;
       shape = none-handed r h;
       agree = omega (arith, s);
-      rest = go-on (length buffer) r None ∙ ap (λ (k : ℕ). goOn k mostInRow r None) n;
+      rest = drains-on (length buffer) r None ∙ ap (λ (k : ℕ). drainsOn k mostInRow r None) n;
     }
 
 module _ {r0 : State} {buffer0 : List ℕ} {r : State} {buffer : List ℕ} {at left : ℕ} {last : Last} (p : Progress r0 buffer0 r buffer at left last) where
@@ -105,7 +105,7 @@ module _ {r0 : State} {buffer0 : List ℕ} {r : State} {buffer : List ℕ} {at l
   pub in-order : r .counts .handed + r .counts .overwritten ≤ r .counts .committed → inShape r ≡ true
   in-order le = handed-shape r (p .shape) le
 
-  none-left : (k : ℕ) → goOn k 0 r last ≡ drainEnds r last
+  none-left : (k : ℕ) → drainsOn k 0 r last ≡ drainEnds r last
   none-left zero = refl
   none-left (suc k) = refl
 
@@ -146,9 +146,9 @@ module _ {r0 : State} {buffer0 : List ℕ} {r : State} {buffer : List ℕ} {at l
         rest =
             p .rest
             ∙ ap (eventsFirst (p .events)) (does .rest)
-            ∙ eventsFirst-append (p .events) es (goOn (length buffer0 - at - t .count) (t .left) (turned t r) (t .last))
-            ∙ ap (λ (i : ℕ). eventsFirst (p .events ++ es) (goOn i (t .left) (turned t r) (t .last))) k
-            ∙ ap (λ (q : State). eventsFirst (p .events ++ es) (goOn (length buffer0 - (at + t .count)) (t .left) q (t .last))) (sym ring);
+            ∙ eventsFirst-append (p .events) es (drainsOn (length buffer0 - at - t .count) (t .left) (turned t r) (t .last))
+            ∙ ap (λ (i : ℕ). eventsFirst (p .events ++ es) (drainsOn i (t .left) (turned t r) (t .last))) k
+            ∙ ap (λ (q : State). eventsFirst (p .events ++ es) (drainsOn (length buffer0 - (at + t .count)) (t .left) q (t .last))) (sym ring);
       }
 
   -- where the loop ends: the buffer is full, no Read is left, or the ring is out of shape
@@ -158,22 +158,22 @@ module _ {r0 : State} {buffer0 : List ℕ} {r : State} {buffer : List ℕ} {at l
       b ≡ ltb 0 left →
       ok ≡ leb (r .counts .handed + r .counts .overwritten) (r .counts .committed) →
       (a && b) && ok ≡ false →
-      goOn (length buffer0 - at) left r last ≡ drainEnds r (lastAfter (a && b) last)
+      drainsOn (length buffer0 - at) left r last ≡ drainEnds r (lastAfter (a && b) last)
   ends false b ok ea eb eo h =
       let full = ltb-false at (length buffer0) (sym ea) in
       let n : length buffer0 - at ≡ 0 = omega arith in
-      ap (λ (k : ℕ). goOn k left r last) n
+      ap (λ (k : ℕ). drainsOn k left r last) n
   ends true false ok ea eb eo h =
       let none = ltb-false 0 left (sym eb) in
       let n : left ≡ 0 = omega arith in
-      ap (λ (k : ℕ). goOn (length buffer0 - at) k r last) n ∙ none-left (length buffer0 - at)
+      ap (λ (k : ℕ). drainsOn (length buffer0 - at) k r last) n ∙ none-left (length buffer0 - at)
   ends true true ok ea eb eo h =
       let buffer-left = ltb-true at (length buffer0) (sym ea) in
       let some = ltb-true 0 left (sym eb) in
       let k : length buffer0 - at ≡ suc (length buffer0 - at - 1) = omega arith in
       let l : left ≡ suc (left - 1) = omega arith in
-      ap (λ (i : ℕ). goOn i left r last) k
-      ∙ ap (λ (i : ℕ). goOn (suc (length buffer0 - at - 1)) i r last) l
+      ap (λ (i : ℕ). drainsOn i left r last) k
+      ∙ ap (λ (i : ℕ). drainsOn (suc (length buffer0 - at - 1)) i r last) l
       ∙ rw (over-handed r (leb-false (r .counts .handed + r .counts .overwritten) (r .counts .committed) (sym eo ∙ h)))
 
   pub finish :

@@ -84,8 +84,8 @@ abbrev ends : List Action → ℕ → Decoded
 ends actions stop = record { actions = actions; stop = stop }
 
 -- actions before others
-abbrev beforeAll : List Action → Decoded → Decoded
-beforeAll done d = ends (done ++ d .actions) (d .stop)
+abbrev actionsFirst : List Action → Decoded → Decoded
+actionsFirst done d = ends (done ++ d .actions) (d .stop)
 
 -- at place `at`, with `made` actions made: the ring r0 has become r, the buffer buffer0 has become buffer, and what is left of the bytes is what is left to do
 pub record Progress (r0 : State) (bytes buffer0 : List ℕ) (r : State) (buffer : List ℕ) (at made : ℕ) : Type 0 where
@@ -93,7 +93,7 @@ pub record Progress (r0 : State) (bytes buffer0 : List ℕ) (r : State) (buffer 
   pub state : r ≡ stateAfter r0 done
   pub answers : buffer ≡ over (laid (answersOf r0 done)) buffer0
   pub count : made ≡ length done
-  pub rest : decoded bytes ≡ beforeAll done (decodedFrom bytes at)
+  pub rest : decoded bytes ≡ actionsFirst done (decodedFrom bytes at)
   -- each action took a byte at least
   pub within : at ≤ length bytes
   pub fewer : made ≤ at
@@ -147,7 +147,7 @@ module _ {r0 : State} {bytes buffer0 : List ℕ} {r : State} {buffer : List ℕ}
         count = ap (λ (k : ℕ). k + 1) (p .count) ∙ sym (length-append so-far (one a));
         rest =
             p .rest
-            ∙ ap (beforeAll so-far) (decoded-whole bytes at coded)
+            ∙ ap (actionsFirst so-far) (decoded-whole bytes at coded)
             ∙ ap (λ (l : List Action). ends l (decodedFrom bytes to .stop)) (sym (append-snoc so-far a (decodedFrom bytes to .actions)));
         within = moves .1;
         fewer = omega arith;
@@ -157,7 +157,7 @@ module _ {r0 : State} {bytes buffer0 : List ℕ} {r : State} {buffer : List ℕ}
   pub finish : decodedFrom bytes at ≡ stopped at → (replayed r Accepted made at ≡ ran r0 (decoded bytes)) × (buffer ≡ ranBuffer r0 (decoded bytes) buffer0)
   finish e =
       let whole : decoded bytes ≡ ends (p .done) at =
-      p .rest ∙ ap (beforeAll (p .done)) e ∙ ap (λ (l : List Action). ends l at) (append-nil (p .done)) in
+      p .rest ∙ ap (actionsFirst (p .done)) e ∙ ap (λ (l : List Action). ends l at) (append-nil (p .done)) in
       subst (λ (d : Decoded). (replayed r Accepted made at ≡ ran r0 d) × (buffer ≡ ranBuffer r0 d buffer0)) (sym whole) (
         ap (λ (q : State). replayed q Accepted made at) (p .state) ∙ ap (λ (k : ℕ). replayed (stateAfter r0 (p .done)) Accepted k at) (p .count),
         p .answers,

@@ -42,13 +42,13 @@ use Rattle.ring.proofs.read.Kept.{Parts, parts, reshaped, word-fits, se
 -- ---- what is left of a drain
 
 -- with space for so many elements, and so many Reads before the next Event
-abbrev pub goOn : ℕ → ℕ → State → Last → DrainOutcome
-goOn zero left r last = drainEnds r last
-goOn (suc space) left r last = readsInRow (drainReads mostInRow space) left r last
+abbrev pub drainsOn : ℕ → ℕ → State → Last → DrainOutcome
+drainsOn zero left r last = drainEnds r last
+drainsOn (suc space) left r last = readsInRow (drainReads mostInRow space) left r last
 
-pub go-on : (space : ℕ) (r : State) (last : Last) → drainReads mostInRow space r last ≡ goOn space mostInRow r last
-go-on zero r last = refl
-go-on (suc space) r last = refl
+pub drains-on : (space : ℕ) (r : State) (last : Last) → drainReads mostInRow space r last ≡ drainsOn space mostInRow r last
+drains-on zero r last = refl
+drains-on (suc space) r last = refl
 
 -- some events before others
 abbrev pub eventsFirst : List ℕ → DrainOutcome → DrainOutcome
@@ -63,7 +63,7 @@ module _ (q : State) (n l : ℕ) (last : Last) where
       {f : Fetch} →
       inShape q ≡ true →
       f ≡ planRead q →
-      goOn (suc n) (suc l) q last ≡ afterRead (drainReads mostInRow n) (readsInRow (drainReads mostInRow n) l) (fetched f q)
+      drainsOn (suc n) (suc l) q last ≡ afterRead (drainReads mostInRow n) (readsInRow (drainReads mostInRow n) l) (fetched f q)
   step shape e = rw (shape, ← e)
 
 -- ---- the pieces that fit
@@ -135,12 +135,12 @@ module _ (r : State) where
         (j n l : ℕ) (last : Last) →
         inShape (out j r) ≡ true →
         r .places .position + j < readLimit (r .places) (r .used) →
-        goOn (suc n) (suc l) (out j r) last ≡ eventFirst (event j) (goOn n mostInRow (out (suc j) r) (Given (eventAnswer j)))
+        drainsOn (suc n) (suc l) (out j r) last ≡ eventFirst (event j) (drainsOn n mostInRow (out (suc j) r) (Given (eventAnswer j)))
     one-more j n l last shape lt =
         step (out j r) n l last shape (out-plan j lt)
         ∙ ap (λ (k : ℕ). eventFirst k (drainReads mostInRow n (out 1 (out j r)) (Given (eventAnswer j)))) (event-told j)
         ∙ ap (λ (q : State). eventFirst (event j) (drainReads mostInRow n q (Given (eventAnswer j)))) (out-more j)
-        ∙ ap (eventFirst (event j)) (go-on n (out (suc j) r) (Given (eventAnswer j)))
+        ∙ ap (eventFirst (event j)) (drains-on n (out (suc j) r) (Given (eventAnswer j)))
 
     -- j + 1 Events
     run :
@@ -148,20 +148,20 @@ module _ (r : State) where
         r .places .position + j < readLimit (r .places) (r .used) →
         j < space →
         r .counts .handed + j + r .counts .overwritten ≤ r .counts .committed →
-        goOn space (suc l) r last ≡ eventsFirst (tabulate (suc j) event) (goOn (space - suc j) mostInRow (out (suc j) r) (Given (eventAnswer j)))
+        drainsOn space (suc l) r last ≡ eventsFirst (tabulate (suc j) event) (drainsOn (space - suc j) mostInRow (out (suc j) r) (Given (eventAnswer j)))
     run zero space l last lt some agree =
         let most = limit-fits r (in-shape r whole) in
         let n : space ≡ suc (space - 1) = omega arith in
-        ap (λ (k : ℕ). goOn k (suc l) r last) n
-        ∙ ap (λ (q : State). goOn (suc (space - 1)) (suc l) q last) (sym out-none)
+        ap (λ (k : ℕ). drainsOn k (suc l) r last) n
+        ∙ ap (λ (q : State). drainsOn (suc (space - 1)) (suc l) q last) (sym out-none)
         ∙ one-more 0 (space - 1) l last (out-shape 0 (omega arith) agree) lt
     run (suc j) space l last lt some agree =
         let most = limit-fits r (in-shape r whole) in
         let n : space - suc j ≡ suc (space - suc (suc j)) = omega arith in
         run j space l last (omega arith) (omega arith) (omega arith)
-        ∙ ap (λ (k : ℕ). eventsFirst (tabulate (suc j) event) (goOn k mostInRow (out (suc j) r) (Given (eventAnswer j)))) n
+        ∙ ap (λ (k : ℕ). eventsFirst (tabulate (suc j) event) (drainsOn k mostInRow (out (suc j) r) (Given (eventAnswer j)))) n
         ∙ ap (eventsFirst (tabulate (suc j) event)) (one-more (suc j) (space - suc (suc j)) (mostInRow - 1) (Given (eventAnswer j)) (out-shape (suc j) (omega arith) agree) lt)
-        ∙ eventsFirst-more (tabulate (suc j) event) (event (suc j)) (goOn (space - suc (suc j)) mostInRow (out (suc (suc j)) r) (Given (eventAnswer (suc j))))
+        ∙ eventsFirst-more (tabulate (suc j) event) (event (suc j)) (drainsOn (space - suc (suc j)) mostInRow (out (suc (suc j)) r) (Given (eventAnswer (suc j))))
 
 -- the smaller of two is at most either, and not 0 if neither is
 smaller-is : (a b : ℕ) → 0 < a → 0 < b → (smaller a b ≤ a) × (smaller a b ≤ b) × (0 < smaller a b)
@@ -178,8 +178,8 @@ pub record Turned (r : State) (space left : ℕ) (last : Last) (t : Turn) : Type
   pub agree : t .handed + r .counts .overwritten ≤ r .counts .committed + 1
   -- the Reads that it makes
   pub rest :
-      goOn space left r last
-      ≡ eventsFirst (eventsFrom (r .numbers) (r .values) (t .from) (t .count)) (goOn (space - t .count) (t .left) (turned t r) (t .last))
+      drainsOn space left r last
+      ≡ eventsFirst (eventsFrom (r .numbers) (r .values) (t .from) (t .count)) (drainsOn (space - t .count) (t .left) (turned t r) (t .last))
   -- there is space for the Events, and their slots are the reader page's
   pub count : t .count ≤ space
   pub slots : r .places .position + t .count ≤ r .size .slots
@@ -209,7 +209,7 @@ module _ (r : State) (whole : inShape r ≡ true) (space left : ℕ) (last : Las
       leaves f (r .places .position) (r .counts .handed) ≡ fetched f r .state →
       readAnswer f (r .size) (placesBefore (r .places) 0) (r .numbers) (r .values) ≡ fetched f r .answer →
       afterRead (drainReads mostInRow (space - 1)) (readsInRow (drainReads mostInRow (space - 1)) (left - 1)) (fetched f r)
-      ≡ goOn (suc (space - 1)) (leftAfter f left) (fetched f r .state) (Given (fetched f r .answer)) →
+      ≡ drainsOn (suc (space - 1)) (leftAfter f left) (fetched f r .state) (Given (fetched f r .answer)) →
       leftAfter f left < left →
       inShape (withHanded 0 (turned (with f 0) r)) ≡ true →
       Turned r space left last (with f 0)
@@ -226,13 +226,13 @@ module _ (r : State) (whole : inShape r ≡ true) (space left : ℕ) (last : Las
         shape = shape;
         agree = omega (arith, s);
         rest =
-            ap (λ (k : ℕ). goOn k left r last) n
-            ∙ ap (λ (k : ℕ). goOn (suc (space - 1)) k r last) l
+            ap (λ (k : ℕ). drainsOn k left r last) n
+            ∙ ap (λ (k : ℕ). drainsOn (suc (space - 1)) k r last) l
             ∙ step r (space - 1) (left - 1) last whole plan
             ∙ kind
-            ∙ ap (λ (k : ℕ). goOn k (leftAfter f left) (fetched f r .state) (Given (fetched f r .answer))) m
-            ∙ ap (λ (q : State). goOn (space - 0) (leftAfter f left) q (Given (fetched f r .answer))) same
-            ∙ ap (λ (a : Answer). goOn (space - 0) (leftAfter f left) (turned (with f 0) r) (Given a)) (sym answer);
+            ∙ ap (λ (k : ℕ). drainsOn k (leftAfter f left) (fetched f r .state) (Given (fetched f r .answer))) m
+            ∙ ap (λ (q : State). drainsOn (space - 0) (leftAfter f left) q (Given (fetched f r .answer))) same
+            ∙ ap (λ (a : Answer). drainsOn (space - 0) (leftAfter f left) (turned (with f 0) r) (Given a)) (sym answer);
         count = omega arith;
         slots = omega (arith, s);
         less = omega arith;
@@ -279,10 +279,10 @@ module _ (r : State) (whole : inShape r ≡ true) (space left : ℕ) (last : Las
         shape = kept then (r .reader) (r .words) (r .used) (position-fits r s (r .places .position + (suc j - 1) + 1) (omega arith)) (fit .reader-fits) (fit .words-fit) (fit .used-fit);
         agree = agree;
         rest =
-            ap (λ (n : ℕ). goOn space n r last) l
+            ap (λ (n : ℕ). drainsOn space n r last) l
             ∙ run r whole idle j space (left - 1) last (omega arith) fits (omega arith)
-            ∙ ap (λ (n : ℕ). eventsFirst (tabulate (suc j) (event r)) (goOn (space - suc j) mostInRow (withPosition n (withHanded (r .counts .handed + suc j) r)) (Given (eventAnswer r j)))) p
-            ∙ ap (λ (n : ℕ). eventsFirst (tabulate (suc j) (event r)) (goOn (space - suc j) mostInRow (turned (with Event (suc j)) r) (Given (eventAnswer r n)))) k;
+            ∙ ap (λ (n : ℕ). eventsFirst (tabulate (suc j) (event r)) (drainsOn (space - suc j) mostInRow (withPosition n (withHanded (r .counts .handed + suc j) r)) (Given (eventAnswer r j)))) p
+            ∙ ap (λ (n : ℕ). eventsFirst (tabulate (suc j) (event r)) (drainsOn (space - suc j) mostInRow (turned (with Event (suc j)) r) (Given (eventAnswer r n)))) k;
         count = fits;
         slots = omega arith;
         less = omega arith;

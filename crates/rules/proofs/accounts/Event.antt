@@ -9,7 +9,7 @@ use lib.ListN.{length, getD, length-append, List·getD-append}
 use lib.Seq.{getD-at}
 use Rattle.rules.specs.State.{numberAt, valueAt, State}
 use Rattle.rules.specs.Read.{handOut}
-use Rattle.rules.specs.Remember.{ReadEvent, History}
+use Rattle.rules.specs.Remember.{ReadEvent, History, readEvent}
 use Rattle.rules.specs.History.{onEvent}
 use Rattle.rules.specs.Demand.{noEvent, EventIn}
 use Rattle.rules.specs.declared.state.ReaderPhase.{ReaderPhase}
@@ -29,10 +29,10 @@ module _ {s : State} {h : History} {L : ℕ → ℕ} {pc pt a r0 gap : ℕ} (v :
   m = numberAt s (s .places .reader) (s .places .position)
 
   abbrev new : ReadEvent
-  new = record { number = numberAt s (s .places .reader) (s .places .position); value = valueAt s (s .places .reader) (s .places .position) }
+  new = readEvent (numberAt s (s .places .reader) (s .places .position)) (valueAt s (s .places .reader) (s .places .position))
 
   abbrev events' : List ReadEvent
-  events' = h .events ++ (record { number = numberAt s (s .places .reader) (s .places .position); value = valueAt s (s .places .reader) (s .places .position) } ∷ [])
+  events' = h .events ++ (readEvent (numberAt s (s .places .reader) (s .places .position)) (valueAt s (s .places .reader) (s .places .position)) ∷ [])
 
   m-is : m ≡ r0 + position
   m-is = b .contents .numbers .reader position inPage

@@ -12,7 +12,7 @@ use lib.ListN.{length, getD, set, length-set, length-append, List·getD-append}
 use lib.Seq.{getD-append-add}
 use Rattle.rules.specs.State.{page, numberAt, top, State}
 use Rattle.rules.specs.Write.{mark}
-use Rattle.rules.specs.Remember.{Marker, By, History}
+use Rattle.rules.specs.Remember.{Marker, By, History, overwriting}
 use Rattle.rules.specs.History.{latest, markedBy, onMark, onMarked}
 use Rattle.rules.specs.Demand.{isCommitted, RightlyTaken}
 use Rattle.rules.specs.declared.state.PageNo.{PageNo}
@@ -212,7 +212,7 @@ module _ {s : State} {h : History} {L : ℕ → ℕ} {pc pt a r0 gap : ℕ} (v :
       committed-at (b .recorded .ordered) _ lies
       ∙ lt-ltb _ (s .counts .committed) (omega (arith, b .sums .committedIs, n-full))
 
-  rightly : RightlyTaken (record { page = page n; before = s; readings = h .readings })
+  rightly : RightlyTaken (overwriting (page n) s (h .readings))
   rightly =
       record {
         ring = record { page = n-le; apart = λ z. R≢n (sym (page-once z)) };

@@ -3,6 +3,7 @@
 use mathlib.Core.Path.{sym, _∙_}
 use Prim.Native.Nat.{ℕ}
 use native.Mathlib.Omega.{arith}
+use Rattle.rules.specs.History.{runAt}
 use Rattle.rules.specs.Receipt.{receiptOf}
 use Rattle.rules.specs.Remember.{History}
 use Rattle.rules.specs.Demand.{Claim}
@@ -17,7 +18,7 @@ use Rattle.rules.proofs.demand.Marks.{visits, marks}
 use Rattle.rules.proofs.demand.Places.{open-from, settled-committed, one-place}
 
 pub demand : {s : State} {h : History} {L : ℕ → ℕ} {pc pt a r0 gap : ℕ} → Control s L pc pt → Accounts s h L pc pt a r0 gap → FatesOf s h
-    → Claim (receiptOf (s .counts)) (record { now = s; past = h })
+    → Claim (receiptOf (s .counts)) (runAt s h)
 demand v b f =
     record {
       working = b .work .many;

@@ -9,7 +9,7 @@ use native.Mathlib.Omega.{arith}
 use borrow.Author.Tests.{eqb-true, eq-eqb}
 use Rattle.rules.specs.Receipt.{receiptOf}
 use Rattle.rules.specs.Remember.{History}
-use Rattle.rules.specs.History.{Run}
+use Rattle.rules.specs.History.{Run, runAt}
 use Rattle.rules.specs.Demand.{HandedOut, Claim, HandedOutOf, AllHandedOut, CompleteClaim}
 use Rattle.rules.specs.State.{State}
 use Rattle.rules.specs.declared.state.WriterPhase.{WriterPhase}
@@ -48,9 +48,9 @@ earlies-none stack (suc depth) never =
 
 module _ (s : State) (h : History) (k : FatesOf s h) (o : Ordered (h .readings) (s .counts .taken) (s .counts .committed))
     (balance : s .counts .begun ≡ s .counts .taken + s .counts .dropped + earlies (s .stack) (s .depth))
-    (claim : Claim (receiptOf (s .counts)) (record { now = s; past = h })) where
+    (claim : Claim (receiptOf (s .counts)) (runAt s h)) where
   abbrev run : Run
-  run = record { now = s; past = h }
+  run = runAt s h
 
   abbrev EarlyNow : ℕ → Type 0
   EarlyNow = Early (λ i. early (phaseAt (s .stack) i)) (s .depth) (h .working)

@@ -4,6 +4,7 @@ use mathlib.Core.Path.{_≡_, refl}
 use Prim.Native.Nat.{ℕ, _+_, _≤_, _<_}
 use native.Mathlib.Omega.{arith}
 use lib.ListN.{length, getD}
+use Rattle.rules.specs.History.{runAt}
 use Rattle.rules.specs.Receipt.{waiting, uncommitted}
 use Rattle.rules.specs.Remember.{History}
 use Rattle.rules.specs.Demand.{onlyFirst, onlySecond, onlyThird, onlyFourth, Count, EventAt, HandedOut, Overwritten, NotCommitted, Waiting}
@@ -13,7 +14,7 @@ use Rattle.rules.proofs.invariant.Accounts.{lostOf, givenNumber, Accoun
 use Rattle.rules.proofs.accounts.Laws.{committed-taken}
 use Rattle.rules.proofs.demand.Counting.{count-map, count-once, rising-count, from-count, Parts, parts}
 use Rattle.rules.proofs.demand.Lost.{lost-in, lost-out}
-use Rattle.rules.proofs.demand.Places.{runAt, Placed, handed-committed, lost-committed, waiting-committed, open-from, one-place}
+use Rattle.rules.proofs.demand.Places.{Placed, handed-committed, lost-committed, waiting-committed, open-from, one-place}
 
 module _ {s : State} {h : History} {L : ℕ → ℕ} {pc pt a r0 gap : ℕ} (v : Control s L pc pt) (b : Accounts s h L pc pt a r0 gap) where
   -- ---- handed out

@@ -6,6 +6,7 @@ use mathlib.Core.List.{List, [], _∷_}
 use Prim.Native.Nat.{ℕ, zero, suc, _-_, _≤_, _<_}
 use native.Mathlib.Omega.{arith}
 use lib.ListN.{length, getD}
+use Rattle.rules.specs.History.{runAt}
 use Rattle.rules.specs.State.{page, State}
 use Rattle.rules.specs.Remember.{By, History, unbegun}
 use Rattle.rules.specs.Demand.{Some, RingPage, moves, Visits, OneHeader, NoHeader}
@@ -13,7 +14,6 @@ use Rattle.rules.specs.declared.state.PageNo.{PageNo}
 use Rattle.rules.proofs.invariant.Order.{N, S, R, T, nextOf, phaseAt, place}
 use Rattle.rules.proofs.invariant.Control.{RecordOk, Owns, Headed, Headless, Flags, headed, headless, Control}
 use Rattle.rules.proofs.invariant.Accounts.{Accounts}
-use Rattle.rules.proofs.demand.Places.{runAt}
 use Rattle.rules.proofs.order.Places.{page-once}
 use Rattle.rules.proofs.order.Walk.{walk, walks}
 

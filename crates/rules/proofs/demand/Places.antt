@@ -5,9 +5,9 @@ use mathlib.Core.Logic.{_⊎_, inl, inr, ⊎-elim}
 use Prim.Native.Nat.{ℕ, _+_, _≤_, _<_}
 use native.Mathlib.Omega.{arith}
 use borrow.Author.Tests.{ltb-true, ltb-false, lt-ltb, le-ltb}
+use Rattle.rules.specs.History.{runAt}
 use Rattle.rules.specs.State.{page, valueAt, State}
 use Rattle.rules.specs.Remember.{History}
-use Rattle.rules.specs.History.{Run}
 use Rattle.rules.specs.Demand.{ExactlyOne, onlyFirst, onlySecond, onlyThird, onlyFourth, ownValue, HandedOut, Overwritten, LiesAt, NotCommitted, Waiting}
 use Rattle.rules.specs.declared.state.PageNo.{PageNo}
 use Rattle.rules.proofs.Lists.{by-eq, by-lt}
@@ -20,9 +20,6 @@ use Rattle.rules.proofs.demand.Events.{given-low}
 use Rattle.rules.proofs.demand.Lost.{lost-in, lost-out}
 use Rattle.rules.proofs.demand.Slots.{lies-below, reader-number, ring-from, ring-after, lies-once, in-reader, in-ring}
 use Rattle.rules.proofs.order.Places.{page-once}
-
-abbrev pub runAt : State → History → Run
-runAt s h = record { now = s; past = h }
 
 abbrev pub Placed : State → History → ℕ → Type 0
 Placed s h m = ExactlyOne (HandedOut (runAt s h) m) (Overwritten (runAt s h) m) (Waiting (runAt s h) m) (NotCommitted (runAt s h) m)

@@ -10,7 +10,7 @@ use Rattle.rules.specs.Shape.{sizeFits}
 use Rattle.rules.specs.SetUp.{freshRing, freshRule}
 use Rattle.rules.specs.Act.{act}
 use Rattle.rules.specs.Remember.{History}
-use Rattle.rules.specs.History.{valueIn, Run, nothing, next, after, runOf}
+use Rattle.rules.specs.History.{valueIn, Run, nothing, next, after, runOf, runAt}
 use Rattle.rules.specs.declared.state.Refusal.the-variants as refusal
 use Rattle.rules.specs.declared.state.Answer.the-variants as answer
 use Rattle.rules.specs.declared.state.Action.{Action}
@@ -51,4 +51,4 @@ pub always : (pages slots mode : ℕ) → freshRule pages slots mode .answer ≡
 always pages slots mode accepted actions =
     let fits = accepted-fits pages slots mode accepted in
     let start = subst (λ (s : State). Invariant s nothing) (sym (fresh-is pages slots mode fits)) (fresh-invariant (sizeOf pages slots mode) fits) in
-    after-invariant actions (record { now = freshRule pages slots mode .state; past = nothing }) start
+    after-invariant actions (runAt (freshRule pages slots mode .state) nothing) start

@@ -8,7 +8,7 @@ use Rattle.rules.specs.Shape.{inShape}
 use Rattle.rules.specs.SetUp.{freshRing}
 use Rattle.rules.specs.Act.{act}
 use Rattle.rules.specs.Remember.{History}
-use Rattle.rules.specs.History.{Run, nothing, next, after}
+use Rattle.rules.specs.History.{Run, nothing, next, after, runAt}
 use Rattle.rules.specs.Replay.{stateAfter, Reached}
 use Rattle.rules.specs.State.{State}
 use Rattle.rules.specs.declared.state.Action.{Action}
@@ -45,7 +45,7 @@ ok-shape s g = invariant-inShape (g .all .control) (g .all .accounts) (g .all .b
 
 pub reached-ok : (s : State) → Reached s → RingOk s
 reached-ok s h =
-    let start : Run = record { now = freshRing (h .size); past = nothing } in
+    let start : Run = runAt (freshRing (h .size)) nothing in
     let now : RingOk (after start (h .past) .now) = record { history = _; all = after-invariant (h .past) start (fresh-invariant (h .size) (h .fits)) } in
     rw (h .reached) (subst RingOk (after-now start (h .past)) now)
 
