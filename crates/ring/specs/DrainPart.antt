@@ -8,7 +8,7 @@ use Rattle.rules.specs.Drain.{DrainOutcome}
 use Rattle.ring.specs.Ring.{stateOf}
 use Rattle.ring.specs.declared.drain_part.DrainPart.{DrainPart}
 
--- the ring, the last answer, and the part of the buffer `buffer` that holds the events and nothing else; it starts where the buffer starts. Of
+-- the ring, the last answer, and the part of the buffer that holds the events and nothing else; it starts where the buffer starts. Of
 -- the reference no more is said: its ghost name is left free.
 abbrev pub handedBack : DrainOutcome → RefT (List ℕ) → DrainPart → Type 0
 handedBack d buffer r = (stateOf (r .ring) ≡ d .state) × (r .last ≡ d .last) × (now (r .part) ≡ d .events) × (ptr (r .part) ≡ ptr buffer)

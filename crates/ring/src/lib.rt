@@ -1,6 +1,7 @@
 // A ring of readings for climate loggers, as a machine of single steps. Each action takes the ring by value and gives it back with an
-// answer; nothing is kept elsewhere. The rules are definitions in specs/, and each function's contract is an equation with one of them.
-pub mod state; // the ring and its parts
+// answer; nothing is kept elsewhere. The rules are those of crate rules, and each function's contract is an equation with one of them, about the
+// state that its ring is (specs/Ring).
+pub mod state; // the ring, and what its calls give back
 pub mod codes; // answers as numbers
 pub mod cells; // what stands where in the arrays
 pub mod words; // link words, split, joined and searched

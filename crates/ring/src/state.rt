@@ -7,7 +7,7 @@ use rules::state::Reader;
 use rules::state::Size;
 use rules::state::Writer;
 
-// The ring. Arrays have buffer for 17 pages of 16 slots; slot s of page p stands at p * S + s.
+// The ring. Arrays have room for 17 pages of 16 slots; slot s of page p stands at p * S + s.
 pub struct Ring {
     pub size: Size,
     pub places: Places,

@@ -30,7 +30,7 @@ abbrev pub answersOf : State → List Action → List Answer
 answersOf r [] = []
 answersOf r (a ∷ rest) = act r a .answer ∷ answersOf (act r a .state) rest
 
--- ---- answers in buffer that is lent: three numbers each, the code of its kind and its values
+-- ---- answers in a buffer that is lent: three numbers each, the code of its kind and its values
 
 abbrev pub answerNumbers : ℕ
 answerNumbers = 3

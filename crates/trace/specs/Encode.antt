@@ -28,7 +28,7 @@ abbrev pub kept : Put → List ℕ → List ℕ → List ℕ
 kept (At next) new old = new
 kept (Refused why) new old = old
 
--- the place after so many bytes from a place on: refused with 6 where the trace would be "longer than that", then with 10 where the capacity is too short
+-- the place after so many bytes from a place on: refused with 6 where the trace would be "longer than that", then with 10 where the bytes lent are too few
 abbrev pub placeFor : ℕ → ℕ → ℕ → Put
 placeFor capacity at count =
     first
@@ -37,7 +37,7 @@ placeFor capacity at count =
     ∷ [])
     (At (at + count))
 
--- the header: refused with 8 where the set-up is "out of range", then with 10 where the capacity is too short
+-- the header: refused with 8 where the set-up is "out of range", then with 10 where the bytes lent are too few
 abbrev pub headerPlace : ℕ → ℕ → ℕ → ℕ → Put
 headerPlace capacity pages slots mode =
     first

@@ -65,7 +65,7 @@ pub record WrittenOut (pages slots mode : ℕ) (actions : List Action) (out : Li
   pub holds : written pages slots mode actions out .out ≡ over (traceOf pages slots mode actions) out
   pub reads : ReadBack pages slots mode actions
 
--- the trace replayed, with buffer for its answers: the actions one by one on the fresh ring, all of them, and their answers at the start of the buffer
+-- the trace replayed, with a buffer for its answers: the actions one by one on the fresh ring, all of them, and their answers at the start of the buffer
 pub record ReplayedBack (pages slots mode : ℕ) (actions : List Action) (buffer : List ℕ) : Type 0 where
   pub replays :
       replayedFrom (traceOf pages slots mode actions) firstAction buffer
@@ -80,7 +80,7 @@ pub record RoundTrip : Type 0 where
       sizeFits (sizeOf pages slots mode) ≡ true →
       length (traceOf pages slots mode actions) ≤ mostLength →
       ReadBack pages slots mode actions
-  -- it is written by the calls where the bytes lent have buffer for it
+  -- it is written by the calls where the bytes lent have room for it
   pub write :
       (pages slots mode : ℕ) (actions : List Action) (out : List ℕ) →
       sizeFits (sizeOf pages slots mode) ≡ true →

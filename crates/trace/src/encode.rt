@@ -26,7 +26,7 @@ fn low_byte(value: u32) -> u8
     (value % 256) as u8
 }
 
-// The header, in bytes that have capacity for it.
+// The header, in bytes that have room for it.
 fn store_header(out: &mut [u8], pages: u8, slots: u8, mode: u8)
     requires { ⌜ firstAction ≤ length (now out) ⌝ }
     ensures { λ _. ⌜ now (out .exit) ≡ put (headerBytes pages slots mode) 0 (now (out .entry)) ⌝ }
@@ -95,7 +95,7 @@ fn place_for(capacity: usize, at: usize, count: usize) -> Put
     Put::At(at + count)
 }
 
-// A Begin, in bytes that have capacity for it.
+// A Begin, in bytes that have room for it.
 fn store_begin(out: &mut [u8], at: usize, value: u32)
     requires { ⌜ at + beginLength ≤ length (now out) ⌝ }
     ensures { λ _. ⌜ now (out .exit) ≡ put (beginCode ∷ valueBytes value) at (now (out .entry)) ⌝ }
@@ -107,7 +107,7 @@ fn store_begin(out: &mut [u8], at: usize, value: u32)
     out[at + 4] = low_byte(value / 16777216);
 }
 
-// One byte, where there is capacity for it.
+// One byte, where there is room for it.
 fn store_byte(out: &mut [u8], at: usize, byte: u8)
     requires { ⌜ at < length (now out) ⌝ }
     ensures { λ _. ⌜ now (out .exit) ≡ put (byte ∷ []) at (now (out .entry)) ⌝ }
@@ -115,7 +115,7 @@ fn store_byte(out: &mut [u8], at: usize, byte: u8)
     out[at] = byte;
 }
 
-// An action, in bytes that have capacity for it.
+// An action, in bytes that have room for it.
 fn store_action(out: &mut [u8], at: usize, action: Action)
     requires { ⌜ at + length (coded action) ≤ length (now out) ⌝ }
     ensures { λ _. ⌜ now (out .exit) ≡ put (coded action) at (now (out .entry)) ⌝ }

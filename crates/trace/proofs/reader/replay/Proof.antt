@@ -170,13 +170,13 @@ module _ {M : Type 1} (𝓤 : URA M) (H : Heap 𝓤) (A : Atoms 𝓤) (W : Given
         qed W (raw (onEntry 𝓤 H A replay.signature κs qs (s, (x, tt)) vals) ∷ []) ∵ enter ! C Λ (shape τ) (slice s ∷ slice x ∷ []) _ $
         alloc1 ! (λ l₀. alloc1 ! (λ l₁. alloc1 ! (λ l₂. alloc1 ! (λ l₃. alloc1 ! (λ l₄. alloc1 ! (λ l₅. alloc0 ! $ params1 ! $
         pass1 ! (init ! 8 refl (shr-slice-lawful 𝓤 H A W (named 0) κ u8 .typed s (slice s ∷ []) p .0)) $ pass1 ! (init ! 6 refl (tt, (tt, (record { fits = buffer .0 }, tt)))) $ pass0 ! $
-        -- [_5; …; _4; …; _3; …; _2; …; _1; …; buffer for _0; …; what is had at entry]
+        -- [_5; …; _4; …; _3; …; _2; …; _1; …; room for _0; …; what is had at entry]
         move ! (12 ∷ []) $ use1 W (raw (Open 𝓤 H A mem run .pre to-open) ⊛ ‵ (Bytes κ s) ⊛ ‵ Lent ⊛ ‵ (flft κ′ q′)) goes-open $ split ! $
         calls-at ! fm (Open 𝓤 H A mem run) known-open to-open (and-then ! (load ! (from ! (stop !)) (look ! 10 refl)) (no-more !)) (λ w.
         use1 W (later (some (λ (r : TraceReader). ((‵ (flft κ q) ⊛ ‵ ftrue) ⊛ ‵ (Row κ .own r (w ∷ []))) ⊛ raw (ensured 𝓤 H A opened.ended (opened.clauses 𝓤 H A mem run) (κ, tt) (s, tt) tt r)))) (id⊢ 𝓤 _) $ await ! tt $ pick ! (λ r.
         split ! $ move ! (1 ∷ []) $ use1 W (raw (fact 𝓤 ((r .bytes ≡ s) × (r .at ≡ firstAction)))) (open-said r) $ heard ! ((r .bytes ≡ s) × (r .at ≡ firstAction)) (λ e.
         split ! $ rewrite ! 1 (λ (h : TraceReader). ‵ (Row κ .own h (w ∷ []))) (λ i. record { bytes = e .0 i; at = e .1 i }) refl $ move ! (1 ∷ []) $
-        -- [what the reader owns; the bytes' token; what is kept; _5; …; _4; …; buffer for _3; …]
+        -- [what the reader owns; the bytes' token; what is kept; _5; …; _4; …; room for _3; …]
         peeks ! (Row κ) (Is (Row κ)) (shows 𝓤 H A (Row κ)) reader (w ∷ []) (λ is.
         land ! (from ! (stop !)) (init ! 7 refl (LL.lawful (T.the-type αᵉ) (T′.the-laws αᵉ) 𝓤 H A W .typed reader _ is .0)) $
         assigns ! (addr ! (from ! (fld ! refl (hop ! (look-in ! 9 (sub ! 0 refl (whole !))) (stop !))))) (from ! (stop !)) (init ! 5 refl (tt, tt)) $
@@ -186,7 +186,7 @@ module _ {M : Type 1} (𝓤 : URA M) (H : Heap 𝓤) (A : Atoms 𝓤) (W : Given
         calls-at ! fm (Method 𝓤 H A mem run) known-method (to-method w) (and-then ! (load ! (from ! (stop !)) (look ! 6 refl)) (and-then ! (load ! (from ! (stop !)) (look ! 2 refl)) (no-more !))) (λ u.
         use1 W (later (some (λ (t : Replay). ((‵ (flft κ q) ⊛ ‵ (flft κ′ q′) ⊛ ‵ ftrue) ⊛ ‵ (R.the-row .own t (u ∷ []))) ⊛ raw (ensured 𝓤 H A method.ended (method.clauses 𝓤 H A mem run) κs (reader, (x, tt)) tt t)))) (id⊢ 𝓤 _) $ await ! tt $ pick ! (λ t.
         split ! $ move ! (1 ∷ []) $ use1 W (given ((replayOutcome t ≡ found) × (length left ≡ length (now x))) (‵ (finally u64 (x .name) left))) (method-said t) $ learn ! (λ e′. move ! (1 ∷ []) $ split ! $ move ! (1 ∷ []) $
-        -- [the result; the tokens; the buffer's last list; what the bytes own; _5; …; buffer for _0; …]
+        -- [the result; the tokens; the buffer's last list; what the bytes own; _5; …; room for _0; …]
         peeks ! R.the-row (Is R.the-row) (shows 𝓤 H A R.the-row) t (u ∷ []) (λ is′.
         land ! (from ! (stop !)) (init ! 14 refl (typed t u is′)) $
         returns ! (look ! 14 refl) $ forget ! 4 refl $ forget ! 6 refl $ forget ! 8 refl $ forget ! 10 refl $ forget ! 12 refl $ forget ! 14 refl $

@@ -65,7 +65,7 @@ coded-here c = sym (c .before .before .before .before .action-at .ensures) ∙ c
 moves-here : (c : Turns) → (loop-top c .loop .at < next c) × (next c ≤ length (start (loop-top c) .args .bytes .now))
 moves-here c = whole-moves (start (loop-top c) .args .bytes .now) (loop-top c .loop .at) (coded-here c)
 
--- there is buffer for the answer
+-- there is room for the answer
 same-buffer : (l : Loop) → length (l .loop .buffer) ≡ length (start l .args .buffer .now)
 same-buffer l = buffer-length (l .loop .inv) (start l .pre .1)
 
