@@ -23,15 +23,15 @@ extern "C" {
     fn bench_by_methods(actions: u32) -> u64;
     fn bench_by_act(actions: u32) -> u64;
     /// The same crate: the replay of a trace, with three numbers for each answer; how many actions it made.
-    fn bench_replay(bytes: *const u8, length: usize, answers: *mut u64, for_answers: usize) -> usize;
+    fn bench_replay(bytes: *const u8, length: usize, answers: *mut u64, answers_length: usize) -> usize;
     /// The same crate: the ring that a trace leaves, drained so many times, each time as the trace left it; how many elements a drain filled.
     fn bench_drain(
         bytes: *const u8,
         length: usize,
         answers: *mut u64,
-        for_answers: usize,
+        answers_length: usize,
         buffer: *mut u64,
-        for_events: usize,
+        buffer_length: usize,
         turns: u32,
     ) -> usize;
 }

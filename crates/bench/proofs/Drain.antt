@@ -6,9 +6,9 @@ use Prim.Native.Nat.{ℕ}
 use lib.ListN.{length, drop}
 use lib.Seq.{drop-append-seam}
 use Rattle.rules.specs.Replay.{over}
-use Rattle.rules.specs.Drain.{drainRule}
+use Rattle.rules.specs.Drain.{drainRule, bufferAfter}
 use Rattle.rules.specs.State.{State}
-use Rattle.ring.specs.Drain.{CountMatches, bufferAfter}
+use Rattle.ring.specs.Drain.{CountMatches}
 use Rattle.ring.specs.declared.state.DrainCount.{DrainCount}
 use Rattle.ring.proofs.drain.Laws.{count-is}
 

@@ -2,8 +2,7 @@
 // of a trace, in place; and the drain of the ring that a trace leaves, in place.
 ghost use mathlib.Core.Path.{_≡_};
 ghost use lib.ListN.{length};
-ghost use Rattle.rules.specs.Drain.{drainRule};
-ghost use Rattle.ring.specs.Drain.{bufferAfter};
+ghost use Rattle.rules.specs.Drain.{drainRule, bufferAfter};
 ghost use Rattle.trace.specs.Header.{firstAction};
 ghost use Rattle.trace.specs.Replays.{replayedFrom, bufferFrom};
 ghost use Rattle.bench.specs.Loop.{nextAction, handedAfter};

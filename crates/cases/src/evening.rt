@@ -12,7 +12,7 @@ use text::Tally;
 // The buffer's elements before a drain, and how many there are.
 const OLD: u64 = 18446744073709551615;
 
-const ROOM: usize = 64;
+const LENT: usize = 64;
 
 // A proved loop has to end; at most 256 readings wait here, and these drains take one each.
 const MOST_DRAINS: u32 = 1000;
@@ -80,10 +80,10 @@ pub(crate) fn drain_once(ring: Ring, buffer: &mut [u64], from: u64) -> Seen {
 }
 
 // How many elements from `count` on are as they were.
-fn kept(buffer: &[u64; ROOM], count: usize) -> u64 {
+fn kept(buffer: &[u64; LENT], count: usize) -> u64 {
     let mut n: u64 = 0;
     let mut i = count;
-    while i < ROOM {
+    while i < LENT {
         if buffer[i] == OLD {
             n = wrapping_add_u64(n, 1);
         }
@@ -117,7 +117,7 @@ fn is_event(last: Last) -> bool {
 fn one_drain(evening: Evening, n: usize, lasts: &mut Tally) -> Evening
     requires { ⌜ n ≤ 64 ⌝ }
 {
-    let mut buffer = [OLD; ROOM];
+    let mut buffer = [OLD; LENT];
     let seen = drain_once(evening.ring, &mut buffer[..n], evening.stored);
     let last = seen.last;
     let none = count_last(last, lasts);
@@ -147,7 +147,7 @@ fn length_at(turn: u32) -> usize
         4 => 5,
         5 => 8,
         6 => 13,
-        _ => ROOM,
+        _ => LENT,
     }
 }
 

@@ -5,7 +5,7 @@ mod print; // a replay as text
 ghost use mathlib.Core.Path.{_≡_};
 ghost use lib.ListN.{length};
 use libc::STDERR_FILENO;
-use ring::replay::ANSWER_NUMBERS;
+use ring::replay::NUMBERS_PER_ANSWER;
 use trace::parts::FIRST_ACTION;
 use trace::parts::MOST_LENGTH;
 
@@ -13,7 +13,7 @@ use trace::parts::MOST_LENGTH;
 const NAME: usize = 131072;
 
 // Room for the answers of the longest trace: one to each byte after its header.
-const ANSWERS: usize = ANSWER_NUMBERS * (MOST_LENGTH - FIRST_ACTION);
+const ANSWERS: usize = NUMBERS_PER_ANSWER * (MOST_LENGTH - FIRST_ACTION);
 
 fn name_buffer() -> [u8; NAME]
     ensures { λ r. ⌜ 131072 ≡ length r ⌝ }

@@ -8,7 +8,7 @@ use ring::Refusal;
 use ring::Replay;
 use ring::Ring;
 use ring::action_at;
-use ring::replay::ANSWER_NUMBERS;
+use ring::replay::NUMBERS_PER_ANSWER;
 use trace::parts::FIRST_ACTION;
 
 // The code of an answer. It is far below this limit, which is for the cast alone.
@@ -31,7 +31,7 @@ fn numbers_at(answers: &[u64], at: usize) -> Numbers
 fn answers_in(answers: &[u64], made: usize) -> usize
     ensures { λ r. ⌜ 3 * r ≤ length (now (answers .entry)) ⌝ }
 {
-    let most = answers.len() / ANSWER_NUMBERS;
+    let most = answers.len() / NUMBERS_PER_ANSWER;
     if made < most { made } else { most }
 }
 
@@ -44,7 +44,7 @@ fn action_lines(bytes: &[u8], answers: &[u64], made: usize) {
         let Coded::Whole(action, next) = action_at(bytes, at) else {
             return;
         };
-        text::numbers_line(action, numbers_at(answers, ANSWER_NUMBERS * i));
+        text::numbers_line(action, numbers_at(answers, NUMBERS_PER_ANSWER * i));
         at = next;
         i = i + 1;
     }

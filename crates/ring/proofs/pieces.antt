@@ -1,2 +1,2 @@
--- The pieces that a Write leaves: that together they are the rule, and beside it the proofs of the functions of src/pieces.rt.
+-- The pieces that a Write or a Read leaves: that together they are the rule, and beside it the proofs of the functions of src/pieces.rt.
 pub mod Laws

@@ -1,5 +1,5 @@
 -- Demand 3 of the code: what holds of the answers that a caller is given, and of the receipt. No rule is named in it except through the claim
--- (the rules' specs/Demand): a run is made of steps that the functions may return, and its history is told by these steps' own answers.
+-- (the rules' specs/Demand): a run is calls of steps that the functions may return, and its history is told by these steps' own answers.
 -- The three promises are parameters here: proofs/demand/Code puts in what the checker proves of `Ring::fresh`, `Ring::act` and `Ring::receipt`.
 -- Assumes nothing.
 use mathlib.Core.Path.{_≡_}
@@ -19,33 +19,33 @@ use Rattle.ring.specs.declared.state.Ring.{Ring}
 use Rattle.ring.specs.declared.state.Step.{Step}
 
 -- an action, and the step that a call of `Ring::act` returned
-pub record Made : Type 0 where
+pub record Call : Type 0 where
   pub action : Action
   pub step : Step
 
 -- the actions of a list of calls
-abbrev pub asked : List Made → List Action
+abbrev pub asked : List Call → List Action
 asked [] = []
 asked (m ∷ rest) = m .action ∷ asked rest
 
 -- the ring that the last call returned
-abbrev pub ringAfter : Ring → List Made → Ring
-ringAfter r [] = r
-ringAfter r (m ∷ rest) = ringAfter (m .step .ring) rest
+abbrev pub lastRing : Ring → List Call → Ring
+lastRing r [] = r
+lastRing r (m ∷ rest) = lastRing (m .step .ring) rest
 
 -- the run that the steps tell: the state of the last ring, and the history of their answers
-abbrev pub runTold : Run → List Made → Run
+abbrev pub runTold : Run → List Call → Run
 runTold r [] = r
 runTold r (m ∷ rest) =
     runTold (runAt (stateOf (m .step .ring)) (recall (valueIn (m .action)) (r .now) (m .step .answer) (r .past))) rest
 
 -- .. from the step of a set-up
-abbrev pub runFrom : Step → List Made → Run
-runFrom first made = runTold (runAt (stateOf (first .ring)) nothing) made
+abbrev pub runFrom : Step → List Call → Run
+runFrom first calls = runTold (runAt (stateOf (first .ring)) nothing) calls
 
 module _ (FreshGives : ℕ → ℕ → ℕ → Step → Type 0) (ActGives : Ring → Action → Step → Type 0) (ReceiptGives : Ring → Receipt → Type 0) where
   -- each call is given the ring that the last one returned
-  abbrev pub Follow : Ring → List Made → Type 0
+  abbrev pub Follow : Ring → List Call → Type 0
   Follow r [] = Unit {0}
   Follow r (m ∷ rest) = ActGives r (m .action) (m .step) × Follow (m .step .ring) rest
 
@@ -65,21 +65,21 @@ module _ (FreshGives : ℕ → ℕ → ℕ → Step → Type 0) (ActGives : Ring
       (pages slots mode : ℕ) (first : Step) →
       FreshGives pages slots mode first →
       first .answer ≡ Accepted →
-      (made : List Made) →
-      Follow (first .ring) made →
+      (calls : List Call) →
+      Follow (first .ring) calls →
       (c : Receipt) →
-      ReceiptGives (ringAfter (first .ring) made) c →
-      CodeClaim (ringAfter (first .ring) made) c (runFrom first made)
+      ReceiptGives (lastRing (first .ring) calls) c →
+      CodeClaim (lastRing (first .ring) calls) c (runFrom first calls)
 
   -- such runs there are: for every set-up and every list of actions, steps and a receipt that the functions may return
   pub record Runs (pages slots mode : ℕ) (actions : List Action) : Type 0 where
     pub first : Step
     pub fresh : FreshGives pages slots mode first
-    pub made : List Made
-    pub all : asked made ≡ actions
-    pub follow : Follow (first .ring) made
+    pub calls : List Call
+    pub all : asked calls ≡ actions
+    pub follow : Follow (first .ring) calls
     pub receipt : Receipt
-    pub given : ReceiptGives (ringAfter (first .ring) made) receipt
+    pub given : ReceiptGives (lastRing (first .ring) calls) receipt
 
   abbrev pub CodeRuns : Type 0
   CodeRuns = (pages slots mode : ℕ) (actions : List Action) → Runs pages slots mode actions

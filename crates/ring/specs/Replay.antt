@@ -3,13 +3,13 @@
 use mathlib.Core.List.{List}
 use Prim.Native.Nat.{ℕ, _+_}
 use lib.ListN.{set}
-use Rattle.rules.specs.Replay.{ReplayOutcome, replayed}
+use Rattle.rules.specs.Replay.{ReplayOutcome, replayWith}
 use Rattle.ring.specs.Ring.{stateOf}
 use Rattle.rules.specs.declared.codes.Numbers.{Numbers}
 use Rattle.ring.specs.declared.state.Replay.{Replay}
 
 abbrev pub replayOutcome : Replay → ReplayOutcome
-replayOutcome r = replayed (stateOf (r .ring)) (r .answer) (r .made) (r .stop)
+replayOutcome r = replayWith (stateOf (r .ring)) (r .answer) (r .made) (r .stop)
 
 -- one answer laid at a place
 abbrev pub laidAt : List ℕ → ℕ → Numbers → List ℕ

@@ -45,11 +45,11 @@ eventCount (Swap p h) places counts used space = 0
 eventCount Miss places counts used space = 0
 
 -- the reading i slots after a slot, as it is stored, and so many of them
-abbrev pub eventAt : List ℕ → List ℕ → ℕ → ℕ → ℕ
-eventAt numbers values from i = eventNumber (reading (getD numbers (from + i) 0)) (getD values (from + i) 0)
+abbrev pub storedEvent : List ℕ → List ℕ → ℕ → ℕ → ℕ
+storedEvent numbers values from i = eventNumber (reading (getD numbers (from + i) 0)) (getD values (from + i) 0)
 
 abbrev pub eventsFrom : List ℕ → List ℕ → ℕ → ℕ → List ℕ
-eventsFrom numbers values from count = tabulate count (eventAt numbers values from)
+eventsFrom numbers values from count = tabulate count (storedEvent numbers values from)
 
 -- the places before the last Read of the turn
 abbrev pub placesBefore : Places → ℕ → Places

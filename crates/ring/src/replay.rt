@@ -4,7 +4,7 @@ ghost use mathlib.Core.Path.{_≡_};
 ghost use Prim.Native.Nat.{_+_, _*_, _<_, _≤_};
 ghost use lib.ListN.{length};
 ghost use Rattle.rules.specs.Actions.{decoded};
-ghost use Rattle.rules.specs.Replay.{answerNumbers, ranBuffer, replayed, refusedReplay, ran, replayRule, bufferRule, Reached};
+ghost use Rattle.rules.specs.Replay.{numbersPerAnswer, ranBuffer, replayWith, refusedReplay, ran, replayRule, bufferRule, Reached};
 ghost use Rattle.ring.specs.Replay.{replayOutcome, laidAt};
 ghost use Rattle.ring.specs.Ring.{stateOf};
 ghost use Rattle.rules.specs.declared.state.Answer.the-variants.{Accepted};
@@ -23,7 +23,7 @@ use rules::state::Answer;
 use rules::state::Refusal;
 
 // How many numbers an answer takes in the buffer lent.
-pub const ANSWER_NUMBERS: usize = 3;
+pub const NUMBERS_PER_ANSWER: usize = 3;
 
 // An answer as numbers, from a place on.
 fn lay_answer(buffer: &mut [u64], at: usize, n: Numbers)
@@ -50,7 +50,7 @@ pub fn refused_replay(why: Refusal) -> Replay
 
 // All was made that could be.
 fn ended(ring: Ring, made: usize, stop: usize) -> Replay
-    ensures { λ r. ⌜ replayOutcome r ≡ replayed (stateOf ring) Accepted made stop ⌝ }
+    ensures { λ r. ⌜ replayOutcome r ≡ replayWith (stateOf ring) Accepted made stop ⌝ }
 {
     Replay {
         ring,
@@ -63,7 +63,7 @@ fn ended(ring: Ring, made: usize, stop: usize) -> Replay
 impl Ring {
     // All the whole actions from the first byte on.
     fn run(mut self, bytes: &[u8], buffer: &mut [u64]) -> Replay
-        requires { ⌜ Reached (stateOf self) × (answerNumbers * length (now bytes) ≤ length (now buffer)) ⌝ }
+        requires { ⌜ Reached (stateOf self) × (numbersPerAnswer * length (now bytes) ≤ length (now buffer)) ⌝ }
         ensures { λ r. ⌜ (replayOutcome r ≡ ran (stateOf self) (decoded (now (bytes .entry)))) × (now (buffer .exit) ≡ ranBuffer (stateOf self) (decoded (now (bytes .entry))) (now (buffer .entry))) ⌝ }
     {
         let mut at: usize = 0;
@@ -83,7 +83,7 @@ impl Ring {
                 &self.numbers,
                 &self.values,
             );
-            lay_answer(buffer, ANSWER_NUMBERS * made, c.answer);
+            lay_answer(buffer, NUMBERS_PER_ANSWER * made, c.answer);
             let place = c.at;
             let writer = c.writer;
             let counts = c.counts;
@@ -106,7 +106,7 @@ impl Ring {
     }
 
     // The actions of `bytes` on the ring of a set-up, up to the first that is unknown or cut: `stop` says where, and the answer is Accepted there too.
-    // Their answers are in the buffer lent, ANSWER_NUMBERS numbers each. Refused with SETUP where `fresh` refuses, and with ROOM where the buffer has no
+    // Their answers are in the buffer lent, NUMBERS_PER_ANSWER numbers each. Refused with SETUP where `fresh` refuses, and with ROOM where the buffer has no
     // place for an answer to each byte: there may be as many actions.
     pub fn replay(pages: u32, slots: u32, mode: u32, bytes: &[u8], buffer: &mut [u64]) -> Replay
         ensures { λ r. ⌜ (replayOutcome r ≡ replayRule pages slots mode (now (bytes .entry)) (now (buffer .entry))) × (now (buffer .exit) ≡ bufferRule pages slots mode (now (bytes .entry)) (now (buffer .entry))) ⌝ }
@@ -114,7 +114,7 @@ impl Ring {
         if !Ring::accepts(pages, slots, mode) {
             return refused_replay(Refusal::SetUp);
         }
-        if buffer.len() / ANSWER_NUMBERS < bytes.len() {
+        if buffer.len() / NUMBERS_PER_ANSWER < bytes.len() {
             return refused_replay(Refusal::Room);
         }
         let first = Ring::fresh(pages, slots, mode);

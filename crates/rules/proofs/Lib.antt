@@ -14,3 +14,4 @@ pub mod demand
 pub mod setup
 pub mod shape
 pub mod drain
+pub mod DrainCases

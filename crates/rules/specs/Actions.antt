@@ -104,11 +104,11 @@ pub record Decodes (bytes : List ℕ) (at : ℕ) : Type 0 where
 abbrev pub valueBytes : ℕ → List ℕ
 valueBytes v = v % 256 ∷ v / 256 % 256 ∷ v / 65536 % 256 ∷ v / 16777216 % 256 ∷ []
 
-abbrev pub coded : Action → List ℕ
-coded (Begin v) = beginCode ∷ valueBytes v
-coded Write = writeCode ∷ []
-coded Read = readCode ∷ []
+abbrev pub actionBytes : Action → List ℕ
+actionBytes (Begin v) = beginCode ∷ valueBytes v
+actionBytes Write = writeCode ∷ []
+actionBytes Read = readCode ∷ []
 
 abbrev pub encoded : List Action → List ℕ
 encoded [] = []
-encoded (a ∷ rest) = coded a ++ encoded rest
+encoded (a ∷ rest) = actionBytes a ++ encoded rest

@@ -10,18 +10,18 @@ use Rattle.rules.specs.declared.state.Answer.{Answer}
 use Rattle.rules.specs.declared.state.Answer.the-variants.{Accepted, Begun, Reserved, Looked, Dropped, Marked, Shared, Retry, Promoted, Standing, Cleared, Pushed, Passed, Filled, Committed, Pending, Event, Empty, Found, Busy, Prepared, Swapped, Missed, Refused}
 
 -- 1 SHAPE, 2 DEPTH, 3 NOBODY, 4 WORN, 5 SETUP; of a trace, 6 "longer than that, or mark wrong or cut", 7 "version other or cut", 8 "set-up cut, or
--- out of range", 9 "an unknown or cut action"; 10, room lent that is too short
-abbrev pub numberOf : Refusal → ℕ
-numberOf Shape = 1
-numberOf Depth = 2
-numberOf Nobody = 3
-numberOf Worn = 4
-numberOf SetUp = 5
-numberOf Mark = 6
-numberOf Version = 7
-numberOf Sizes = 8
-numberOf Action = 9
-numberOf Room = 10
+-- out of range", 9 "an unknown or cut action"; 10, a buffer lent that is too short
+abbrev pub refusalNumber : Refusal → ℕ
+refusalNumber Shape = 1
+refusalNumber Depth = 2
+refusalNumber Nobody = 3
+refusalNumber Worn = 4
+refusalNumber SetUp = 5
+refusalNumber Mark = 6
+refusalNumber Version = 7
+refusalNumber Sizes = 8
+refusalNumber Action = 9
+refusalNumber Room = 10
 
 -- what an answer tells: the number of a refusal, 0 where nothing is refused, and the values in the answer's brackets, in their order
 pub record Told : Type 0 where
@@ -55,7 +55,7 @@ told Busy = says []
 told Prepared = says []
 told Swapped = says []
 told Missed = says []
-told (Refused why) = record { refusal = numberOf why; values = [] }
+told (Refused why) = record { refusal = refusalNumber why; values = [] }
 
 -- "Each action takes a ring and gives the ring back, with an answer": these two, and what the answer tells.
 pub record Outcome : Type 0 where

@@ -4,7 +4,7 @@ use mathlib.Core.List.{[], _∷_}
 use Prim.Native.Nat.{ℕ, _+_}
 use lib.ListN.{getD}
 use Rattle.rules.specs.State.{reading}
-use Rattle.rules.specs.Answers.{numberOf}
+use Rattle.rules.specs.Answers.{refusalNumber}
 use Rattle.rules.specs.declared.state.Refusal.{Refusal}
 use Rattle.rules.specs.declared.state.Refusal.the-variants.{Shape, Depth, Nobody, Worn, SetUp, Mark, Version, Sizes, Action, Room}
 use Rattle.rules.specs.declared.state.Answer.{Answer}
@@ -17,7 +17,7 @@ kinds = 33
 
 -- the refusals follow the other kinds, the last of which has code 22, by their numbers in the rules
 abbrev pub refusalCode : Refusal → ℕ
-refusalCode why = 22 + numberOf why
+refusalCode why = 22 + refusalNumber why
 
 abbrev pub withTwo : ℕ → ℕ → ℕ → Numbers
 withTwo code first second = record { code = code; first = first; second = second }

@@ -153,16 +153,16 @@ pub record RightlyTaken (o : Overwriting) : Type 0 where
   pub full : (p : PageNo) → RingPage (o .before) p → usedAt (o .before .used) p ≡ o .before .size .slots
 
 -- k moves from p, each to the page in the word
-abbrev pub moves : List ℕ → ℕ → PageNo → PageNo
-moves words zero p = p
-moves words (suc k) p = pageIn (wordAt words (moves words k p))
+abbrev pub movesFrom : List ℕ → ℕ → PageNo → PageNo
+movesFrom words zero p = p
+movesFrom words (suc k) p = pageIn (wordAt words (movesFrom words k p))
 
 -- "from any ring page, N moves to the page in the word meet each ring page once and end at the start"; and no number of moves leaves the ring pages
 pub record Visits (r : State) (p : PageNo) : Type 0 where
-  pub once : (j k : ℕ) → j < r .size .pages → k < r .size .pages → moves (r .words) (suc j) p ≡ moves (r .words) (suc k) p → j ≡ k
-  pub meets : (q : PageNo) → RingPage r q → (k : ℕ) × (k < r .size .pages) × (moves (r .words) (suc k) p ≡ q)
-  pub back : moves (r .words) (r .size .pages) p ≡ p
-  pub stays : (k : ℕ) → RingPage r (moves (r .words) k p)
+  pub once : (j k : ℕ) → j < r .size .pages → k < r .size .pages → movesFrom (r .words) (suc j) p ≡ movesFrom (r .words) (suc k) p → j ≡ k
+  pub meets : (q : PageNo) → RingPage r q → (k : ℕ) × (k < r .size .pages) × (movesFrom (r .words) (suc k) p ≡ q)
+  pub back : movesFrom (r .words) (r .size .pages) p ≡ p
+  pub stays : (k : ℕ) → RingPage r (movesFrom (r .words) k p)
 
 -- "Header and update marks are HEADER and UPDATE in a word."
 abbrev pub flagAt : State → PageNo → ℕ

@@ -11,7 +11,7 @@ use Rattle.rules.specs.State.{State}
 use Rattle.rules.specs.Answers.{Outcome}
 use Rattle.rules.specs.Shape.{inShape}
 use Rattle.rules.specs.Read.{readRule}
-use Rattle.rules.specs.Replay.{stateAfter, answersOf}
+use Rattle.rules.specs.Replay.{stateAfter, answersOf, over}
 use Rattle.rules.specs.declared.state.ReadingNo.{ReadingNo}
 use Rattle.rules.specs.declared.state.Refusal.the-variants.{Shape}
 use Rattle.rules.specs.declared.state.Answer.{Answer}
@@ -27,37 +27,37 @@ abbrev pub eventNumber : ReadingNo → ℕ → ℕ
 eventNumber n v = n .0 * 2 ^ 32 + v
 
 -- an Event, as the number that is stored; "Empty, Busy or a refusal"; and what is none of these, after which the Reads go on
-pub data Kind : Type 0 where
-  event : ℕ → Kind
-  ending : Kind
-  quiet : Kind
+pub data DrainKind : Type 0 where
+  event : ℕ → DrainKind
+  ending : DrainKind
+  quiet : DrainKind
 
-abbrev pub kindOf : Answer → Kind
-kindOf (answer.Event n v) = event (eventNumber n v)
-kindOf answer.Empty = ending
-kindOf answer.Busy = ending
-kindOf (answer.Refused why) = ending
-kindOf answer.Found = quiet
-kindOf answer.Prepared = quiet
-kindOf answer.Swapped = quiet
-kindOf answer.Missed = quiet
+abbrev pub drainKind : Answer → DrainKind
+drainKind (answer.Event n v) = event (eventNumber n v)
+drainKind answer.Empty = ending
+drainKind answer.Busy = ending
+drainKind (answer.Refused why) = ending
+drainKind answer.Found = quiet
+drainKind answer.Prepared = quiet
+drainKind answer.Swapped = quiet
+drainKind answer.Missed = quiet
 -- no Read answers these
-kindOf answer.Accepted = quiet
-kindOf (answer.Begun depth) = quiet
-kindOf (answer.Reserved n) = quiet
-kindOf answer.Looked = quiet
-kindOf answer.Dropped = quiet
-kindOf answer.Marked = quiet
-kindOf answer.Shared = quiet
-kindOf answer.Retry = quiet
-kindOf answer.Promoted = quiet
-kindOf answer.Standing = quiet
-kindOf answer.Cleared = quiet
-kindOf answer.Pushed = quiet
-kindOf answer.Passed = quiet
-kindOf answer.Filled = quiet
-kindOf (answer.Committed count) = quiet
-kindOf answer.Pending = quiet
+drainKind answer.Accepted = quiet
+drainKind (answer.Begun depth) = quiet
+drainKind (answer.Reserved n) = quiet
+drainKind answer.Looked = quiet
+drainKind answer.Dropped = quiet
+drainKind answer.Marked = quiet
+drainKind answer.Shared = quiet
+drainKind answer.Retry = quiet
+drainKind answer.Promoted = quiet
+drainKind answer.Standing = quiet
+drainKind answer.Cleared = quiet
+drainKind answer.Pushed = quiet
+drainKind answer.Passed = quiet
+drainKind answer.Filled = quiet
+drainKind (answer.Committed count) = quiet
+drainKind answer.Pending = quiet
 
 -- ---- the Reads
 
@@ -67,15 +67,18 @@ pub record DrainOutcome : Type 0 where
   pub events : List ℕ
   pub last : Last
 
+abbrev pub drainWith : State → List ℕ → Last → DrainOutcome
+drainWith r events last = record { state = r; events = events; last = last }
+
 abbrev pub drainEnds : State → Last → DrainOutcome
-drainEnds r last = record { state = r; events = []; last = last }
+drainEnds r last = drainWith r [] last
 
 -- one event before others
 abbrev pub eventFirst : ℕ → DrainOutcome → DrainOutcome
-eventFirst e d = record { state = d .state; events = e ∷ d .events; last = d .last }
+eventFirst e d = drainWith (d .state) (e ∷ d .events) (d .last)
 
 -- after a Read: its event with what comes `later`; the end; or, after a quiet answer, `on`
-abbrev pub byKind : Kind → DrainOutcome → DrainOutcome → DrainOutcome → DrainOutcome
+abbrev pub byKind : DrainKind → DrainOutcome → DrainOutcome → DrainOutcome → DrainOutcome
 byKind (event e) later end on = eventFirst e later
 byKind ending later end on = end
 byKind quiet later end on = on
@@ -83,7 +86,7 @@ byKind quiet later end on = on
 -- after a Read with this outcome; both go on from its ring and its answer
 abbrev pub afterRead : (State → Last → DrainOutcome) → (State → Last → DrainOutcome) → Outcome → DrainOutcome
 afterRead later on o =
-    byKind (kindOf (o .answer))
+    byKind (drainKind (o .answer))
     (later (o .state) (Given (o .answer)))
     (drainEnds (o .state) (Given (o .answer)))
     (on (o .state) (Given (o .answer)))
@@ -104,9 +107,13 @@ drainReads most (suc space) r last = readsInRow (drainReads most space) most r l
 abbrev pub drainRule : State → ℕ → DrainOutcome
 drainRule r space = cond (inShape r) (drainReads mostInRow space r None) (drainEnds r (Given (answer.Refused Shape)))
 
+-- the buffer that the events are laid in: "the rest keeps its old contents"
+abbrev pub bufferAfter : DrainOutcome → List ℕ → List ℕ
+bufferAfter d buffer = over (d .events) buffer
+
 -- ---- the same as single actions
 
-abbrev eventThen : Kind → List ℕ → List ℕ
+abbrev eventThen : DrainKind → List ℕ → List ℕ
 eventThen (event e) es = e ∷ es
 eventThen ending es = es
 eventThen quiet es = es
@@ -114,7 +121,7 @@ eventThen quiet es = es
 -- the events that some answers tell
 abbrev pub eventsAmong : List Answer → List ℕ
 eventsAmong [] = []
-eventsAmong (a ∷ rest) = eventThen (kindOf a) (eventsAmong rest)
+eventsAmong (a ∷ rest) = eventThen (drainKind a) (eventsAmong rest)
 
 -- the last of some answers, after the one before them
 abbrev pub lastOf : Last → List Answer → Last
@@ -142,7 +149,7 @@ pub data Brought : Last → Type 0 where
 abbrev pub enough : ℕ
 enough = 6
 
--- one drain of one element, with at most six Reads in a row, ends with one of the three; so does every drain with space; and any limit of six
+-- one drain of one element, with at most six Reads in a row, ends with one of the three; so does every drain into a buffer that has an element; and any limit of six
 -- or more gives what eight give
 pub record Brings (r : State) : Type 0 where
   pub within : Brought (drainReads enough 1 r None .last)

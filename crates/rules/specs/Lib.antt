@@ -20,8 +20,9 @@ pub mod Cases
 pub mod Remember
 pub mod History
 pub mod Demand
--- the later requests: a recorded day (E1), a drain (E2)
+-- the later requests: a recorded day (E1), a drain (E2). That answers stand as numbers in a buffer that is lent (Codes, and in Replay) is a house form
 pub mod Codes
 pub mod Actions
 pub mod Replay
 pub mod Drain
+pub mod DrainCases

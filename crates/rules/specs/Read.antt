@@ -1,5 +1,5 @@
 -- Read: which rule applies to the reader, what each rule does, and the action. "Read".
--- The first part reads only the pieces that decide; the second changes the ring.
+-- The first part reads only what decides; the second changes the ring.
 -- Assumes nothing.
 use mathlib.Core.Bool.{cond}
 use mathlib.Core.List.{List, [], _∷_}

@@ -3,7 +3,7 @@
 use mathlib.Core.Bool.{Bool, true, false, cond}
 use Prim.Native.Nat.{ℕ, _-_}
 use lib.Dec.{eqb}
-use Rattle.rules.specs.Answers.{numberOf}
+use Rattle.rules.specs.Answers.{refusalNumber}
 use Rattle.rules.specs.Shape.{inShape}
 use Rattle.rules.specs.State.{State}
 use Rattle.rules.specs.declared.state.Counts.{Counts}
@@ -44,7 +44,7 @@ receiptOf c =
 
 -- refusal 1: "receipt all zero, not complete"
 abbrev pub refusedReceipt : Receipt
-refusedReceipt = receipt (numberOf Shape) 0 0 0 0 0 0 0 false
+refusedReceipt = receipt (refusalNumber Shape) 0 0 0 0 0 0 0 false
 
 abbrev pub receiptRule : State → Receipt
 receiptRule r = cond (inShape r) (receiptOf (r .counts)) refusedReceipt

@@ -32,8 +32,8 @@ answersOf r (a ∷ rest) = act r a .answer ∷ answersOf (act r a .state) rest
 
 -- ---- answers in a buffer that is lent: three numbers each, the code of its kind and its values
 
-abbrev pub answerNumbers : ℕ
-answerNumbers = 3
+abbrev pub numbersPerAnswer : ℕ
+numbersPerAnswer = 3
 
 abbrev pub laid : List Answer → List ℕ
 laid [] = []
@@ -48,7 +48,7 @@ ranBuffer r d buffer = over (laid (answersOf r (d .actions))) buffer
 
 -- in the buffer lent there is a place for an answer to each byte: as many actions as there may be
 abbrev pub bufferFits : List ℕ → List ℕ → Bool
-bufferFits bytes buffer = not (ltb (length buffer / answerNumbers) (length bytes))
+bufferFits bytes buffer = not (ltb (length buffer / numbersPerAnswer) (length bytes))
 
 -- ---- what a replay comes to
 
@@ -61,16 +61,16 @@ pub record ReplayOutcome : Type 0 where
   pub made : ℕ
   pub stop : ℕ
 
-abbrev pub replayed : State → Answer → ℕ → ℕ → ReplayOutcome
-replayed r a made stop = record { state = r; answer = a; made = made; stop = stop }
+abbrev pub replayWith : State → Answer → ℕ → ℕ → ReplayOutcome
+replayWith r a made stop = record { state = r; answer = a; made = made; stop = stop }
 
 -- refused before the first action: the plain ring
 abbrev pub refusedReplay : Refusal → ReplayOutcome
-refusedReplay why = replayed plainRing (Refused why) 0 0
+refusedReplay why = replayWith plainRing (Refused why) 0 0
 
 -- all of them made, from ring r; that the bytes may break off is told by the stop alone
 abbrev pub ran : State → Decoded → ReplayOutcome
-ran r d = replayed (stateAfter r (d .actions)) Accepted (length (d .actions)) (d .stop)
+ran r d = replayWith (stateAfter r (d .actions)) Accepted (length (d .actions)) (d .stop)
 
 -- refused with SETUP where the set-up is, then with ROOM where the buffer is too short for whatever the bytes hold
 abbrev pub replayRule : ℕ → ℕ → ℕ → List ℕ → List ℕ → ReplayOutcome
@@ -96,5 +96,5 @@ bufferRule pages slots mode bytes buffer =
 pub record Reached (r : State) : Type 0 where
   pub size : Size
   pub fits : sizeFits size ≡ true
-  pub past : List Action
-  pub reached : r ≡ stateAfter (freshRing size) past
+  pub actions : List Action
+  pub reached : r ≡ stateAfter (freshRing size) actions

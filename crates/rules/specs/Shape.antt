@@ -149,7 +149,7 @@ layoutTests size places reader stack depth words used =
 unfoldable pub layoutFits : Size → Places → Reader → List Writer → ℕ → List ℕ → List ℕ → Bool
 layoutFits size places reader stack depth words used = every (layoutTests size places reader stack depth words used)
 
--- all of it but the slots' numbers: what the code tests
+-- all of it but the slots' numbers
 abbrev pub ringFits : State → Bool
 ringFits r = countsFit (r .counts) && layoutFits (r .size) (r .places) (r .reader) (r .stack) (r .depth) (r .words) (r .used)
 

@@ -1,5 +1,5 @@
 -- Write: which rule applies to the top record, what each rule does, and the action. "Begin and Write".
--- The first part reads only the pieces that decide; the second changes the ring.
+-- The first part reads only what decides; the second changes the ring.
 -- Assumes nothing.
 use mathlib.Core.Bool.{Bool, true, false, cond, _&&_, _||_}
 use mathlib.Core.List.{List, [], _∷_}
@@ -69,7 +69,8 @@ abbrev pub promoteBy : Search → PageNo → WriterPhase → Move
 promoteBy (At p h) n next = Become next answer.Standing
 promoteBy Nowhere n next = Promote n next
 
--- "no page other than the reader page has a HEADER word": a look at every page, and not at n's word
+-- "no page other than the reader page has a HEADER word": a look at every page, and not at n's word. n is named all the same, since a look at it
+-- alone is the easy mistake.
 abbrev pub promoteLook : Size → Places → PageNo → List ℕ → Search
 promoteLook size places n words = findHeader words (size .pages) (places .reader)
 

@@ -1,12 +1,12 @@
 // Refusals by number.
 ghost use mathlib.Core.Path.{_≡_};
-ghost use Rattle.rules.specs.Answers.{numberOf};
+ghost use Rattle.rules.specs.Answers.{refusalNumber};
 use crate::state::Refusal;
 
 impl Refusal {
     // The number that the refusal has in the rules.
     pub fn number(self) -> u32
-        ensures { λ r. ⌜ r ≡ numberOf self ⌝ }
+        ensures { λ r. ⌜ r ≡ refusalNumber self ⌝ }
     {
         match self {
             Refusal::Shape => 1,

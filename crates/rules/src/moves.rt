@@ -1,4 +1,4 @@
-// What an action decides from the pieces of the ring, before anything is stored.
+// What an action decides, before it changes anything.
 use crate::state::Answer;
 use crate::state::PageNo;
 use crate::state::Refusal;

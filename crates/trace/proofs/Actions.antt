@@ -9,7 +9,7 @@ use borrow.Author.Tests.{le-leb, lt-leb, le-ltb}
 use lib.ListN.{length, length-append}
 use lib.Seq.{getD-append-seam, getD-append-add}
 use Rattle.rules.specs.Limits.{mostCount}
-use Rattle.rules.specs.Actions.{beginCode, writeCode, readCode, beginLength, valueOf, valueBytes, codedAt, actionFirst, decodedFrom, coded, encoded}
+use Rattle.rules.specs.Actions.{beginCode, writeCode, readCode, beginLength, valueOf, valueBytes, codedAt, actionFirst, decodedFrom, actionBytes, encoded}
 use Rattle.trace.specs.Trace.{ValueFits, ValuesFit}
 use Rattle.rules.specs.declared.state.Action.{Action}
 use Rattle.rules.specs.declared.state.Action.the-variants.{Begin, Write, Read}
@@ -34,18 +34,18 @@ module _ (pre rest : List ℕ) where
   before-end : (x : ℕ) → length pre < length (pre ++ x ∷ rest)
   before-end x = simp length-append (omega arith)
 
-  pub whole-at : (a : Action) → ValueFits a → codedAt (pre ++ (coded a ++ rest)) (length pre) ≡ Whole a (length pre + length (coded a))
+  pub whole-at : (a : Action) → ValueFits a → codedAt (pre ++ (actionBytes a ++ rest)) (length pre) ≡ Whole a (length pre + length (actionBytes a))
   whole-at (Begin v) f =
-      let bytes = pre ++ (coded (Begin v) ++ rest) in
+      let bytes = pre ++ (actionBytes (Begin v) ++ rest) in
       let l : length bytes ≡ length pre + (5 + length rest) = simp length-append (omega arith) in
       rw (
         lt-leb (length bytes) (length pre) (omega arith),
         getD-append-seam pre beginCode (valueBytes v ++ rest) 0,
         le-ltb (length bytes - length pre) beginLength (omega arith),
-        getD-append-add pre (coded (Begin v) ++ rest) 1 0,
-        getD-append-add pre (coded (Begin v) ++ rest) 2 0,
-        getD-append-add pre (coded (Begin v) ++ rest) 3 0,
-        getD-append-add pre (coded (Begin v) ++ rest) 4 0,
+        getD-append-add pre (actionBytes (Begin v) ++ rest) 1 0,
+        getD-append-add pre (actionBytes (Begin v) ++ rest) 2 0,
+        getD-append-add pre (actionBytes (Begin v) ++ rest) 3 0,
+        getD-append-add pre (actionBytes (Begin v) ++ rest) 4 0,
         value-back v f,
       )
   whole-at Write f = rw (lt-leb _ _ (before-end writeCode), getD-append-seam)
@@ -58,5 +58,5 @@ decoded-encoded pre [] f =
     let e : codedAt (pre ++ []) (length pre) ≡ End = rw append-nil (simp (le-leb (length pre) (length pre) (omega arith))) in
     decoded-stops (pre ++ []) (length pre) e tt ∙ rw append-nil
 decoded-encoded pre (a ∷ rest) f =
-    decoded-whole (pre ++ (coded a ++ encoded rest)) (length pre) (whole-at pre (encoded rest) a (f .0))
-    ∙ ap (actionFirst a) (rw (append-assoc, length-append) at (decoded-encoded (pre ++ coded a) rest (f .1)))
+    decoded-whole (pre ++ (actionBytes a ++ encoded rest)) (length pre) (whole-at pre (encoded rest) a (f .0))
+    ∙ ap (actionFirst a) (rw (append-assoc, length-append) at (decoded-encoded (pre ++ actionBytes a) rest (f .1)))

@@ -9,8 +9,8 @@ use lib.ListN.{length, length-append}
 use lib.Seq.{take-append-seam, drop-append-add, drop-drop}
 use Rattle.rules.specs.State.{sizeOf}
 use Rattle.rules.specs.Shape.{sizeFits}
-use Rattle.rules.specs.Actions.{Decoded, decodedFrom, coded, encoded}
-use Rattle.rules.specs.Replay.{answerNumbers, over, ranBuffer, bufferFits}
+use Rattle.rules.specs.Actions.{Decoded, decodedFrom, actionBytes, encoded}
+use Rattle.rules.specs.Replay.{numbersPerAnswer, over, ranBuffer, bufferFits}
 use Rattle.trace.specs.Header.{mostLength, markEnd, versionEnd, firstAction, plainByte, headerOf}
 use Rattle.trace.specs.Replays.{walkPlace, walkBytes, walkActions, walked, headerRing, replayedFrom, bufferFrom}
 use Rattle.trace.specs.Encode.{headerBytes, put, kept, placeFor, headerPlace, actionPlace}
@@ -67,26 +67,26 @@ module _ (out : List ℕ) where
   over-more : (pre bytes : List ℕ) → put bytes (length pre) (over pre out) ≡ over (pre ++ bytes) out
   over-more pre bytes = simp (take-append-seam, drop-append-add, drop-drop, length-append)
 
-  -- bytes that have buffer are put
+  -- bytes that there is room for are put
   has-place : (pre bytes : List ℕ) → length pre + length bytes ≤ mostLength → length pre + length bytes ≤ length out → placeFor (length (over pre out)) (length pre) (length bytes) ≡ At (length pre + length bytes)
   has-place pre bytes s f =
       rw (over-length pre out (omega arith), le-ltb mostLength (length pre + length bytes) s, le-ltb (length out) (length pre + length bytes) f)
 
   -- one call that is not refused, after which the bytes of one action more stand at the start
-  one-more : (pre : List ℕ) (a : Action) (rest : List Action) {next : ℕ} → actionPlace (length (over pre out)) (length pre) a ≡ At next → writtenFrom (At (length pre)) (over pre out) (a ∷ rest) ≡ writtenFrom (At (length (pre ++ coded a))) (over (pre ++ coded a) out) rest
+  one-more : (pre : List ℕ) (a : Action) (rest : List Action) {next : ℕ} → actionPlace (length (over pre out)) (length pre) a ≡ At next → writtenFrom (At (length pre)) (over pre out) (a ∷ rest) ≡ writtenFrom (At (length (pre ++ actionBytes a))) (over (pre ++ actionBytes a) out) rest
   one-more pre a rest e =
-      let n = placed (length (over pre out)) (length pre) (length (coded a)) e .after ∙ sym (length-append pre (coded a)) in
-      ap (λ (p : Put). writtenFrom p (kept p (put (coded a) (length pre) (over pre out)) (over pre out)) rest) (e ∙ ap At n)
-      ∙ ap (λ (l : List ℕ). writtenFrom (At (length (pre ++ coded a))) l rest) (over-more pre (coded a))
+      let n = placed (length (over pre out)) (length pre) (length (actionBytes a)) e .after ∙ sym (length-append pre (actionBytes a)) in
+      ap (λ (p : Put). writtenFrom p (kept p (put (actionBytes a) (length pre) (over pre out)) (over pre out)) rest) (e ∙ ap At n)
+      ∙ ap (λ (l : List ℕ). writtenFrom (At (length (pre ++ actionBytes a))) l rest) (over-more pre (actionBytes a))
 
   write-from : (pre : List ℕ) (actions : List Action) → length (pre ++ encoded actions) ≤ mostLength → length (pre ++ encoded actions) ≤ length out → writtenFrom (At (length pre)) (over pre out) actions .place ≡ At (length (pre ++ encoded actions))
   write-from pre [] s f = rw append-nil
   write-from pre (a ∷ rest) s f =
-      let n = length-append pre (coded a ++ encoded rest) in
-      let m = length-append (coded a) (encoded rest) in
-      let e = has-place pre (coded a) (omega arith) (omega arith) in
-      let q = append-assoc pre (coded a) (encoded rest) in
-      rw (one-more pre a rest e, ← q) (write-from (pre ++ coded a) rest (rw q s) (rw q f))
+      let n = length-append pre (actionBytes a ++ encoded rest) in
+      let m = length-append (actionBytes a) (encoded rest) in
+      let e = has-place pre (actionBytes a) (omega arith) (omega arith) in
+      let q = append-assoc pre (actionBytes a) (encoded rest) in
+      rw (one-more pre a rest e, ← q) (write-from (pre ++ actionBytes a) rest (rw q s) (rw q f))
 
   -- what calls leave that are not refused
   record Left (w : Written) (whole : List ℕ) (end : ℕ) : Type 0 where
@@ -101,12 +101,12 @@ module _ (out : List ℕ) where
   wrote-from pre (a ∷ rest) end s f h =
       by-put (actionPlace (length (over pre out)) (length pre) a)
       (λ next e.
-      let p = placed (length (over pre out)) (length pre) (length (coded a)) e in
-      let n = length-append pre (coded a) in
+      let p = placed (length (over pre out)) (length pre) (length (actionBytes a)) e in
+      let n = length-append pre (actionBytes a) in
       let k = over-length pre out f in
       let o = one-more pre a rest e in
-      rw (o, ← append-assoc) (wrote-from (pre ++ coded a) rest end (omega arith) (omega arith) (rw o at h)))
-      (λ why e. not-both (refused-after (put (coded a) (length pre) (over pre out)) (over pre out) rest e) h)
+      rw (o, ← append-assoc) (wrote-from (pre ++ actionBytes a) rest end (omega arith) (omega arith) (rw o at h)))
+      (λ why e. not-both (refused-after (put (actionBytes a) (length pre) (over pre out)) (over pre out) rest e) h)
 
 module _ (pages slots mode : ℕ) (actions : List Action) (out : List ℕ) where
   -- the first call
@@ -136,7 +136,7 @@ module _ (pages slots mode : ℕ) (actions : List Action) (out : List ℕ) where
 
 -- ---- the replay of what was written
 
-module _ (pages slots mode : ℕ) (actions : List Action) (buffer : List ℕ) (back : ReadBack pages slots mode actions) (fits : answerNumbers * length (encoded actions) ≤ length buffer) where
+module _ (pages slots mode : ℕ) (actions : List Action) (buffer : List ℕ) (back : ReadBack pages slots mode actions) (fits : numbersPerAnswer * length (encoded actions) ≤ length buffer) where
   abbrev bytes : List ℕ
   bytes = traceOf pages slots mode actions
 

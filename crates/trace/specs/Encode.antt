@@ -8,7 +8,7 @@ use lib.ListN.{length, take, drop}
 use Rattle.rules.specs.Lists.{first}
 use Rattle.rules.specs.State.{sizeOf}
 use Rattle.rules.specs.Shape.{sizeFits}
-use Rattle.rules.specs.Actions.{coded}
+use Rattle.rules.specs.Actions.{actionBytes}
 use Rattle.trace.specs.Header.{mostLength, letterP, letterT, letterR, version, firstAction}
 use Rattle.rules.specs.declared.state.Refusal.the-variants.{Mark, Sizes, Room}
 use Rattle.rules.specs.declared.state.Action.{Action}
@@ -51,7 +51,7 @@ headerPut out pages slots mode = kept (headerPlace (length out) pages slots mode
 
 -- an action
 abbrev pub actionPlace : ℕ → ℕ → Action → Put
-actionPlace capacity at a = placeFor capacity at (length (coded a))
+actionPlace capacity at a = placeFor capacity at (length (actionBytes a))
 
 abbrev pub actionPut : List ℕ → ℕ → Action → List ℕ
-actionPut out at a = kept (actionPlace (length out) at a) (put (coded a) at out) out
+actionPut out at a = kept (actionPlace (length out) at a) (put (actionBytes a) at out) out

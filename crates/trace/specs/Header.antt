@@ -1,4 +1,4 @@
--- The header of a trace. Request E1: "Bytes: the mark "PTR", version 1 in two bytes, low first, then N, S and mode, one byte each." What the start
+-- The header of a trace. Request E1: "Bytes: the mark "PTR", version 1 in two bytes, low first, then N, S and mode, one byte each." What the header
 -- says, and which refusal comes first.
 -- Assumes nothing.
 use mathlib.Core.Bool.{Bool, _&&_, cond, not}

@@ -10,7 +10,7 @@ use lib.ListN.{length, drop}
 use Rattle.rules.specs.State.{sizeOf, State}
 use Rattle.rules.specs.SetUp.{freshRing}
 use Rattle.rules.specs.Actions.{Decoded, codedAt, decodedFrom}
-use Rattle.rules.specs.Replay.{stateAfter, ranBuffer, bufferFits, replayed, refusedReplay, ReplayOutcome}
+use Rattle.rules.specs.Replay.{stateAfter, ranBuffer, bufferFits, replayWith, refusedReplay, ReplayOutcome}
 use Rattle.trace.specs.Header.{headerOf}
 use Rattle.rules.specs.declared.state.Refusal.the-variants as refusal
 use Rattle.rules.specs.declared.state.Answer.{Answer}
@@ -36,17 +36,17 @@ wholeTo len stop = cond (eqb stop len) answer.Accepted (answer.Refused refusal.A
 
 -- the actions made one by one from ring r; the stop is "the offset of that action's first byte"
 abbrev pub walked : ℕ → State → Decoded → ReplayOutcome
-walked len r d = replayed (stateAfter r (d .actions)) (wholeTo len (d .stop)) (length (d .actions)) (d .stop)
+walked len r d = replayWith (stateAfter r (d .actions)) (wholeTo len (d .stop)) (length (d .actions)) (d .stop)
 
 -- a run of the bytes from a place on, told as one of all of them
 abbrev pub toldFrom : ℕ → ℕ → ReplayOutcome → ReplayOutcome
-toldFrom len from run = replayed (run .state) (wholeTo len (from + run .stop)) (run .made) (from + run .stop)
+toldFrom len from run = replayWith (run .state) (wholeTo len (from + run .stop)) (run .made) (from + run .stop)
 
 -- the ring of the header
 abbrev pub headerRing : ℕ → ℕ → ℕ → State
 headerRing pages slots mode = freshRing (sizeOf pages slots mode)
 
--- by what the start says: a refusal, with the plain ring; or the actions on its ring, where the buffer lent has a place for an answer to each byte
+-- by what the header says: a refusal, with the plain ring; or the actions on its ring, where the buffer lent has a place for an answer to each byte
 abbrev pub replayedBy : Header → List ℕ → ℕ → List ℕ → ReplayOutcome
 replayedBy (Refused why) bytes at buffer = refusedReplay why
 replayedBy (Ready pages slots mode) bytes at buffer =

@@ -10,7 +10,7 @@ use Rattle.rules.specs.State.{sizeOf}
 use Rattle.rules.specs.Shape.{sizeFits}
 use Rattle.rules.specs.Actions.{decodedFrom, encoded}
 use Rattle.rules.specs.SetUp.{freshRing}
-use Rattle.rules.specs.Replay.{stateAfter, answersOf, answerNumbers, laid, over, replayed}
+use Rattle.rules.specs.Replay.{stateAfter, answersOf, numbersPerAnswer, laid, over, replayWith}
 use Rattle.trace.specs.Header.{mostLength, firstAction, headerOf}
 use Rattle.trace.specs.Replays.{replayedFrom, bufferFrom}
 use Rattle.trace.specs.Encode.{headerBytes, headerPlace, headerPut, actionPlace, actionPut}
@@ -69,7 +69,7 @@ pub record WrittenOut (pages slots mode : ℕ) (actions : List Action) (out : Li
 pub record ReplayedBack (pages slots mode : ℕ) (actions : List Action) (buffer : List ℕ) : Type 0 where
   pub replays :
       replayedFrom (traceOf pages slots mode actions) firstAction buffer
-      ≡ replayed (stateAfter (freshRing (sizeOf pages slots mode)) actions) Accepted (length actions) (length (traceOf pages slots mode actions))
+      ≡ replayWith (stateAfter (freshRing (sizeOf pages slots mode)) actions) Accepted (length actions) (length (traceOf pages slots mode actions))
   pub answers : bufferFrom (traceOf pages slots mode actions) firstAction buffer ≡ over (laid (answersOf (freshRing (sizeOf pages slots mode)) actions)) buffer
 
 pub record RoundTrip : Type 0 where
@@ -97,5 +97,5 @@ pub record RoundTrip : Type 0 where
   pub replayed :
       (pages slots mode : ℕ) (actions : List Action) (buffer : List ℕ) →
       ReadBack pages slots mode actions →
-      answerNumbers * length (encoded actions) ≤ length buffer →
+      numbersPerAnswer * length (encoded actions) ≤ length buffer →
       ReplayedBack pages slots mode actions buffer

@@ -3,7 +3,7 @@ ghost use mathlib.Core.Path.{_≡_};
 ghost use Prim.Native.Nat.{_+_, _<_, _≤_, _%_};
 ghost use mathlib.Core.List.{[], _∷_};
 ghost use lib.ListN.{length};
-ghost use Rattle.rules.specs.Actions.{beginCode, beginLength, valueBytes, coded};
+ghost use Rattle.rules.specs.Actions.{beginCode, beginLength, valueBytes, actionBytes};
 ghost use Rattle.trace.specs.Header.{firstAction};
 ghost use Rattle.trace.specs.Encode.{headerBytes, put, placeFor, headerPlace, actionPlace, headerPut, actionPut};
 use crate::parts::FIRST_ACTION;
@@ -70,7 +70,7 @@ pub fn put_header(out: &mut [u8], pages: u32, slots: u32, mode: u32) -> Put
 
 // How many bytes an action has.
 fn length_of(action: Action) -> usize
-    ensures { λ r. ⌜ r ≡ length (coded action) ⌝ }
+    ensures { λ r. ⌜ r ≡ length (actionBytes action) ⌝ }
 {
     match action {
         Action::Begin(_) => Action::BEGIN_LENGTH,
@@ -117,8 +117,8 @@ fn store_byte(out: &mut [u8], at: usize, byte: u8)
 
 // An action, in bytes that have room for it.
 fn store_action(out: &mut [u8], at: usize, action: Action)
-    requires { ⌜ at + length (coded action) ≤ length (now out) ⌝ }
-    ensures { λ _. ⌜ now (out .exit) ≡ put (coded action) at (now (out .entry)) ⌝ }
+    requires { ⌜ at + length (actionBytes action) ≤ length (now out) ⌝ }
+    ensures { λ _. ⌜ now (out .exit) ≡ put (actionBytes action) at (now (out .entry)) ⌝ }
 {
     match action {
         Action::Begin(value) => store_begin(out, at, value),

@@ -67,7 +67,7 @@ fn set_up(pages: u8, slots: u8, mode: u8) -> Header
     Header::Refused(Refusal::Sizes)
 }
 
-// What the start says, or the first refusal that applies.
+// What the header says, or the first refusal that applies.
 pub fn header(bytes: &[u8]) -> Header
     ensures { λ r. ⌜ r ≡ headerOf (now (bytes .entry)) ⌝ }
 {

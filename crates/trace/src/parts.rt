@@ -29,7 +29,7 @@ pub const VERSION: u32 = 1;
 // the mode byte that stands for the plain ring's mode
 pub const PLAIN_BYTE: u8 = 2;
 
-// What the start of a trace says.
+// What the header of a trace says.
 pub enum Header {
     // N, S and the mode that the ring gets
     Ready(u32, u32, u32),

@@ -9,7 +9,7 @@ use ring::Answer;
 use ring::Refusal;
 use ring::Replay;
 use ring::Ring;
-use ring::replay::ANSWER_NUMBERS;
+use ring::replay::NUMBERS_PER_ANSWER;
 use ring::replay::refused_replay;
 
 // Where a walk begins: a place past the end is the end.
@@ -49,7 +49,7 @@ pub(crate) fn replay_from(bytes: &[u8], at: usize, answers: &mut [u64]) -> Repla
         Header::Refused(why) => refused_replay(why),
         Header::Ready(pages, slots, mode) => {
             let from = walk_place(bytes.len(), at);
-            if answers.len() / ANSWER_NUMBERS < bytes.len() - from {
+            if answers.len() / NUMBERS_PER_ANSWER < bytes.len() - from {
                 return refused_replay(Refusal::Room);
             }
             let run = Ring::replay(pages, slots, mode, &bytes[from..], answers);

@@ -4,10 +4,10 @@ use Prim.Native.Nat.{_-_}
 use native.Mathlib.Omega.{arith}
 use borrow.Author.Needs.{needs}
 use lib.ListN.{length}
-use Rattle.rules.specs.Drain.{drainRule}
+use Rattle.rules.specs.Drain.{drainRule, bufferAfter}
 use Rattle.rules.specs.Replay.{ReplayOutcome}
 use Rattle.ring.specs.Ring.{stateOf}
-use Rattle.ring.specs.Drain.{CountMatches, bufferAfter}
+use Rattle.ring.specs.Drain.{CountMatches}
 use Rattle.ring.specs.declared.state.DrainCount.{DrainCount}
 use Rattle.bench.proofs.Drain.{again}
 use Rattle.bench.proofs.bench_drain.Statement.{statement}
@@ -53,7 +53,7 @@ returns c =
     let first = drained-at l .drain-into .ensures in
     let replay = replayed-at l .replay .ensures in
     let buffer = start l .args .buffer .now in (
-      ap (λ (f : DrainCount). f .count) (inv .1) ∙ first .0 .stored
+      ap (λ (f : DrainCount). f .count) (inv .1) ∙ first .0 .count
           ∙ ap (λ (r : ReplayOutcome). length (drainRule (r .state) (length buffer) .events)) (replay .0),
       (replay .1, inv .0 ∙ first .1 ∙ ap (λ (r : ReplayOutcome). bufferAfter (drainRule (r .state) (length buffer)) buffer) (replay .0)),
     )

@@ -35,7 +35,7 @@ use Rattle.rules.specs.declared.moves.Fetch.the-variants as fetch
 use Rattle.ring.specs.declared.change.Change.{Change}
 use Rattle.rules.proofs.Lists.{by-cond}
 use Rattle.rules.proofs.shape.Laws.{InShape}
-use Rattle.ring.proofs.write.Laws.{top-fits, plan-fits}
+use Rattle.ring.proofs.write.Laws.{top-fits, plan-precondition}
 use Rattle.ring.proofs.read.Laws as read
 use Rattle.ring.proofs.pieces.Laws.{stores-precondition, read-stores-precondition}
 
@@ -103,7 +103,7 @@ module _ (r : State) (s : InShape r) where
         phase = λ n. top-fits r s n;
         moved = λ n.
             record {
-              move = plan-fits r s n;
+              move = plan-precondition r s n;
               tail = omega (arith, s);
               taken = s .taken;
               overwritten = s .overwritten;
@@ -118,8 +118,8 @@ module _ (r : State) (s : InShape r) where
         position = omega (arith, s);
         handed = s .handed;
         phase = s .phase;
-        fetch = read.plan-fits r s;
-        event = read.event-fits r s;
+        fetch = read.plan-precondition r s;
+        event = read.event-precondition r s;
       }
 
   -- the change c where the verdict v allows it
@@ -160,5 +160,5 @@ module _ (r : State) (s : InShape r) where
   change-stores Write =
       by-cond (λ (w : Verdict). StoresPrecondition (judged-by moved-by w .stores)) (eqb (r .depth) 0)
       (λ e. tt)
-      (λ e. stores-precondition (r .size) (r .counts .taken) (top r .value) (r .words) (s .slots-most) (planWrite r) (plan-fits r s (eqb-false (r .depth) 0 e)))
-  change-stores Read = read-stores-precondition (r .places .reader) (r .words) (planRead r) (read.plan-fits r s) (omega (arith, s))
+      (λ e. stores-precondition (r .size) (r .counts .taken) (top r .value) (r .words) (s .slots-most) (planWrite r) (plan-precondition r s (eqb-false (r .depth) 0 e)))
+  change-stores Read = read-stores-precondition (r .places .reader) (r .words) (planRead r) (read.plan-precondition r s) (omega (arith, s))

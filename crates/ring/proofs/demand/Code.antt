@@ -11,7 +11,7 @@ use Rattle.rules.specs.Remember.{History}
 use Rattle.rules.specs.History.{Run, runAt, after, runOf, nothing, recall, valueIn}
 use Rattle.rules.specs.Demand.{Claim, CompleteClaim, Sound, RunClaim}
 use Rattle.ring.specs.Ring.{stateOf, outcome}
-use Rattle.ring.specs.Code.{Made, asked, ringAfter, runTold, runFrom, Follow, CodeDemand3}
+use Rattle.ring.specs.Code.{Call, asked, lastRing, runTold, runFrom, Follow, CodeDemand3}
 use Rattle.rules.specs.declared.state.Action.{Action}
 use Rattle.rules.specs.declared.state.Receipt.{Receipt}
 use Rattle.ring.specs.declared.state.Ring.{Ring}
@@ -39,14 +39,14 @@ abbrev by : Run → Action → Outcome → Run
 by r a o = runAt (o .state) (recall (valueIn a) (r .now) (o .answer) (r .past))
 
 -- it ends in the state of the last ring
-last-told : (r : Ring) (past : History) (made : List Made) → stateOf (ringAfter r made) ≡ runTold (runAt (stateOf r) past) made .now
+last-told : (r : Ring) (past : History) (calls : List Call) → stateOf (lastRing r calls) ≡ runTold (runAt (stateOf r) past) calls .now
 last-told r past [] = refl
 last-told r past (m ∷ rest) = last-told (m .step .ring) (by (runAt (stateOf r) past) (m .action) (outcome (m .step)) .past) rest
 
 told-after :
-    (r : Ring) (past : History) (made : List Made) →
-    Follow FreshGives ActGives ReceiptGives r made →
-    runTold (runAt (stateOf r) past) made ≡ after (runAt (stateOf r) past) (asked made)
+    (r : Ring) (past : History) (calls : List Call) →
+    Follow FreshGives ActGives ReceiptGives r calls →
+    runTold (runAt (stateOf r) past) calls ≡ after (runAt (stateOf r) past) (asked calls)
 told-after r past [] f = refl
 told-after r past (m ∷ rest) f =
     let here = runAt (stateOf r) past in
@@ -54,14 +54,14 @@ told-after r past (m ∷ rest) f =
     ∙ ap (λ (o : Outcome). after (by here (m .action) o) (asked rest)) (f .0)
 
 pub code-demand-3 : CodeDemand3 FreshGives ActGives ReceiptGives
-code-demand-3 pages slots mode first given accepted made follows c receipt =
-    let r = runFrom first made in
-    let last = ringAfter (first .ring) made in
-    let now = last-told (first .ring) nothing made in
-    let ruled : r ≡ runOf pages slots mode (asked made) =
-    told-after (first .ring) nothing made follows ∙ ap (λ (o : Outcome). after (runAt (o .state) nothing) (asked made)) given in
+code-demand-3 pages slots mode first given accepted calls follows c receipt =
+    let r = runFrom first calls in
+    let last = lastRing (first .ring) calls in
+    let now = last-told (first .ring) nothing calls in
+    let ruled : r ≡ runOf pages slots mode (asked calls) =
+    told-after (first .ring) nothing calls follows ∙ ap (λ (o : Outcome). after (runAt (o .state) nothing) (asked calls)) given in
     let rulesAccept = sym (ap (λ (o : Outcome). o .answer) given) ∙ accepted in
-    let whole : RunClaim r = subst RunClaim (sym ruled) (demand-3 pages slots mode rulesAccept (asked made)) in
+    let whole : RunClaim r = subst RunClaim (sym ruled) (demand-3 pages slots mode rulesAccept (asked calls)) in
     let sound : Sound (stateOf last) = subst Sound (sym now) (whole .sound) in
     let its : c ≡ receiptRule (r .now) = receipt ∙ ap receiptRule now in
     record {

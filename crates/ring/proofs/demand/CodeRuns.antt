@@ -15,7 +15,7 @@ use Rattle.rules.specs.Read.{planRead, fetched}
 use Rattle.rules.specs.Act.{act}
 use Rattle.rules.specs.Receipt.{receiptRule}
 use Rattle.ring.specs.Ring.{stateOf, outcome}
-use Rattle.ring.specs.Code.{Made, asked, ringAfter, Follow, CodeRuns}
+use Rattle.ring.specs.Code.{Call, asked, lastRing, Follow, CodeRuns}
 use Rattle.rules.specs.declared.state.Action.{Action}
 use Rattle.rules.specs.declared.state.Action.the-variants.{Begin, Write, Read}
 use Rattle.rules.specs.declared.state.Answer.the-variants.{Accepted}
@@ -73,7 +73,7 @@ fresh-plain pages slots mode =
     judged-plain (setUpVerdict (sizeFits size)) plainRing (gives Accepted (freshRing size)) refl
 
 -- the rules' own steps
-abbrev makes : State → List Action → List Made
+abbrev makes : State → List Action → List Call
 makes r [] = []
 makes r (a ∷ rest) = record { action = a; step = stepOf (act r a) } ∷ makes (act r a .state) rest
 
@@ -91,9 +91,9 @@ code-runs pages slots mode actions =
     record {
       first = stepOf o;
       fresh = fresh-plain pages slots mode;
-      made = makes (o .state) actions;
+      calls = makes (o .state) actions;
       all = makes-asked (o .state) actions;
       follow = makes-follow (o .state) actions;
-      receipt = receiptRule (stateOf (ringAfter (stepOf o .ring) (makes (o .state) actions)));
+      receipt = receiptRule (stateOf (lastRing (stepOf o .ring) (makes (o .state) actions)));
       given = refl;
     }

@@ -15,9 +15,9 @@ use Rattle.rules.specs.State.{withHanded, State}
 use Rattle.rules.specs.Shape.{inShape}
 use Rattle.rules.specs.Replay.{over}
 use Rattle.rules.specs.Limits.{mostInRow}
-use Rattle.rules.specs.Drain.{DrainOutcome, drainEnds, drainReads}
+use Rattle.rules.specs.Drain.{DrainOutcome, drainWith, drainEnds, drainReads, bufferAfter}
 use Rattle.ring.specs.Turn.{eventsFrom, lastAfter, turnOf, turned}
-use Rattle.ring.specs.Drain.{CountMatches, bufferAfter}
+use Rattle.ring.specs.Drain.{CountMatches}
 use Rattle.rules.specs.declared.state.Last.{Last}
 use Rattle.rules.specs.declared.state.Last.the-variants.{None}
 use Rattle.ring.specs.declared.state.DrainCount.{DrainCount}
@@ -51,10 +51,6 @@ module _ (r : State) where
 
 -- ---- the loop
 
--- a drain that told these events
-abbrev ended : List ℕ → State → Last → DrainOutcome
-ended es r last = record { state = r; events = es; last = last }
-
 abbrev pub drainCount : State → Last → ℕ → DrainCount
 drainCount r last count = record { ring = ringOf r; last = last; count = count }
 
@@ -62,14 +58,14 @@ drainCount r last count = record { ring = ringOf r; last = last; count = count }
 pub count-is : (d : DrainOutcome) (r : DrainCount) → CountMatches d r → r ≡ drainCount (d .state) (d .last) (length (d .events))
 count-is d r e =
     ap (λ (s : State). drainCount s (r .last) (r .count)) (e .state)
-    ∙ ap (λ (l : Last). drainCount (d .state) l (r .count)) (e .last-answer)
-    ∙ ap (drainCount (d .state) (d .last)) (e .stored)
+    ∙ ap (λ (l : Last). drainCount (d .state) l (r .count)) (e .lastAnswer)
+    ∙ ap (drainCount (d .state) (d .last)) (e .count)
 
 abbrev whole : State → List ℕ → DrainOutcome
 whole r buffer = drainReads mostInRow (length buffer) r None
 
 eventsFirst-append : (xs ys : List ℕ) (d : DrainOutcome) → eventsFirst xs (eventsFirst ys d) ≡ eventsFirst (xs ++ ys) d
-eventsFirst-append xs ys d = ap (λ (l : List ℕ). ended l (d .state) (d .last)) (sym (append-assoc xs ys (d .events)))
+eventsFirst-append xs ys d = ap (λ (l : List ℕ). drainWith (d .state) l (d .last)) (sym (append-assoc xs ys (d .events)))
 
 -- the ring r0 has become r, the buffer buffer0 has become buffer, `at` elements are laid, and what is left to do is what is left of the drain
 pub record Progress (r0 : State) (buffer0 : List ℕ) (r : State) (buffer : List ℕ) (at left : ℕ) (last : Last) : Type 0 where
@@ -184,12 +180,12 @@ module _ {r0 : State} {buffer0 : List ℕ} {r : State} {buffer : List ℕ} {at l
       (a && b) && ok ≡ false →
       CountMatches (whole r0 buffer0) (drainCount r (lastAfter (a && b) last) at) × (buffer ≡ bufferAfter (whole r0 buffer0) buffer0)
   finish a b ok ea eb eo h =
-      let all : whole r0 buffer0 ≡ ended (p .events) r (lastAfter (a && b) last) =
-      p .rest ∙ ap (eventsFirst (p .events)) (ends a b ok ea eb eo h) ∙ ap (λ (es : List ℕ). ended es r (lastAfter (a && b) last)) (append-nil (p .events)) in (
+      let all : whole r0 buffer0 ≡ drainWith r (p .events) (lastAfter (a && b) last) =
+      p .rest ∙ ap (eventsFirst (p .events)) (ends a b ok ea eb eo h) ∙ ap (λ (es : List ℕ). drainWith r es (lastAfter (a && b) last)) (append-nil (p .events)) in (
         record {
           state = ap (λ (d : DrainOutcome). d .state) (sym all);
-          last-answer = ap (λ (d : DrainOutcome). d .last) (sym all);
-          stored = p .count ∙ ap (λ (d : DrainOutcome). length (d .events)) (sym all);
+          lastAnswer = ap (λ (d : DrainOutcome). d .last) (sym all);
+          count = p .count ∙ ap (λ (d : DrainOutcome). length (d .events)) (sym all);
         },
         p .laid ∙ ap (λ (d : DrainOutcome). bufferAfter d buffer0) (sym all),
       )

@@ -1,4 +1,4 @@
--- A verdict is not both of its kinds. And what holds in an arm of a match on a Move, a Fetch, Stores or what is coded that is for several variants, as `_ => ..`: there it is known by the
+-- A verdict is not both of its kinds. And what holds in an arm of a match on an enum that is for several variants, as `_ => ..`: there it is known by the
 -- numbers of these variants, and a fact of each of them is a fact of it.
 -- Assumes nothing.
 use mathlib.Core.Path.{_≡_}

@@ -79,17 +79,17 @@ module _ (r : State) (s : InShape r) where
 
   -- ---- what the code asks
 
-  fetch-fits : (f : Fetch) → Planned r f → FetchPrecondition f
-  fetch-fits Event w = tt
-  fetch-fits Empty w = tt
-  fetch-fits Busy w = tt
-  fetch-fits (Find p h) w = tt
-  fetch-fits (Prepare p h) w = omega (arith, s)
-  fetch-fits (Swap p h) w = omega (arith, s)
-  fetch-fits Miss w = tt
+  fetch-precondition : (f : Fetch) → Planned r f → FetchPrecondition f
+  fetch-precondition Event w = tt
+  fetch-precondition Empty w = tt
+  fetch-precondition Busy w = tt
+  fetch-precondition (Find p h) w = tt
+  fetch-precondition (Prepare p h) w = omega (arith, s)
+  fetch-precondition (Swap p h) w = omega (arith, s)
+  fetch-precondition Miss w = tt
 
-  pub plan-fits : FetchPrecondition (planRead r)
-  plan-fits = fetch-fits (planRead r) planned
+  pub plan-precondition : FetchPrecondition (planRead r)
+  plan-precondition = fetch-precondition (planRead r) planned
 
   -- the position of an Event
   pub event-here : planRead r ≡ Event → r .places .position < readLimit (r .places) (r .used)
@@ -97,8 +97,8 @@ module _ (r : State) (s : InShape r) where
       let p : Planned r Event = rw e at planned in
       p .1
 
-  pub event-fits : EventPrecondition (planRead r) (r .size) (r .places)
-  event-fits e =
+  pub event-precondition : EventPrecondition (planRead r) (r .size) (r .places)
+  event-precondition e =
       let below = event-here e in
       let most = limit-fits in
       slotIndex-room (r .size) (r .places .reader) (r .places .position) (omega (arith, s)) (s .slots-most) (omega (arith, s))

@@ -12,7 +12,7 @@ use Rattle.rules.specs.Codes.{numbersOf}
 use Rattle.rules.specs.Shape.{inShape}
 use Rattle.rules.specs.Act.{act}
 use Rattle.rules.specs.Actions.{Decoded, stopped, codedAt, decoded, decodedFrom}
-use Rattle.rules.specs.Replay.{stateAfter, answersOf, answerNumbers, laid, over, ranBuffer, Reached, replayed, ran}
+use Rattle.rules.specs.Replay.{stateAfter, answersOf, numbersPerAnswer, laid, over, ranBuffer, Reached, replayWith, ran}
 use Rattle.rules.specs.State.{State}
 use Rattle.ring.specs.Change.{changeOf, changed}
 use Rattle.ring.specs.Replay.{laidAt}
@@ -22,7 +22,7 @@ use Rattle.rules.specs.declared.state.Answer.{Answer}
 use Rattle.rules.specs.declared.state.Answer.the-variants.{Accepted}
 use Rattle.rules.specs.declared.actions.Coded.the-variants.{Whole}
 use Rattle.rules.proofs.actions.Laws.{whole-moves, decoded-whole}
-use Rattle.rules.proofs.runs.Reached.{reached-shape}
+use Rattle.rules.proofs.runs.Reached.{after-append, reached-shape}
 use Rattle.ring.proofs.change.Laws.{change-acts}
 
 -- ---- a list of actions, and one more
@@ -31,8 +31,7 @@ abbrev one : Action → List Action
 one a = a ∷ []
 
 after-more : (r : State) (done : List Action) (a : Action) → stateAfter r (done ++ one a) ≡ act (stateAfter r done) a .state
-after-more r [] a = refl
-after-more r (b ∷ done) a = after-more (act r b .state) done a
+after-more r done a = after-append r done (one a)
 
 answers-more : (r : State) (done : List Action) (a : Action) → answersOf r (done ++ one a) ≡ answersOf r done ++ (act (stateAfter r done) a .answer ∷ [])
 answers-more r [] a = refl
@@ -47,7 +46,7 @@ laid-more [] a = refl
 laid-more (b ∷ answers) a =
     ap (λ (l : List ℕ). numbersOf b .code ∷ numbersOf b .first ∷ numbersOf b .second ∷ l) (laid-more answers a)
 
-laid-length : (r : State) (done : List Action) → length (laid (answersOf r done)) ≡ answerNumbers * length done
+laid-length : (r : State) (done : List Action) → length (laid (answersOf r done)) ≡ numbersPerAnswer * length done
 laid-length r [] = refl
 laid-length r (a ∷ done) =
     let l = laid-length (act r a .state) done in
@@ -107,10 +106,10 @@ module _ {r0 : State} {bytes buffer0 : List ℕ} {r : State} {buffer : List ℕ}
   shaped h = rw (p .state) (reached-shape r0 h (p .done))
 
   -- the buffer as long as it was, and where the next answer goes
-  prefix-length : length (laid (answersOf r0 (p .done))) ≡ answerNumbers * made
-  prefix-length = laid-length r0 (p .done) ∙ ap (λ (k : ℕ). answerNumbers * k) (sym (p .count))
+  prefix-length : length (laid (answersOf r0 (p .done))) ≡ numbersPerAnswer * made
+  prefix-length = laid-length r0 (p .done) ∙ ap (λ (k : ℕ). numbersPerAnswer * k) (sym (p .count))
 
-  pub buffer-length : answerNumbers * length bytes ≤ length buffer0 → length buffer ≡ length buffer0
+  pub buffer-length : numbersPerAnswer * length bytes ≤ length buffer0 → length buffer ≡ length buffer0
   buffer-length fits =
       let n = prefix-length in
       let m = p .fewer in
@@ -120,10 +119,10 @@ module _ {r0 : State} {bytes buffer0 : List ℕ} {r : State} {buffer : List ℕ}
   pub turn :
       {a : Action} {to : ℕ} {r' : State} {buffer' : List ℕ} →
       Reached r0 →
-      answerNumbers * length bytes ≤ length buffer0 →
+      numbersPerAnswer * length bytes ≤ length buffer0 →
       codedAt bytes at ≡ Whole a to →
       r' ≡ changed (changeOf r a) r →
-      buffer' ≡ laidAt buffer (answerNumbers * made) (changeOf r a .answer) →
+      buffer' ≡ laidAt buffer (numbersPerAnswer * made) (changeOf r a .answer) →
       Progress r0 bytes buffer0 r' buffer' to (made + 1)
   turn {a} {to} {r'} {buffer'} h fits coded changes lays =
       let moves = whole-moves bytes at coded in
@@ -139,7 +138,7 @@ module _ {r0 : State} {bytes buffer0 : List ℕ} {r : State} {buffer : List ℕ}
         state = changes ∙ sym (agrees .state) ∙ ap (λ (q : State). act q a .state) (p .state) ∙ sym (after-more r0 so-far a);
         answers =
             lays
-            ∙ ap (λ (l : List ℕ). laidAt l (answerNumbers * made) (changeOf r a .answer)) (p .answers)
+            ∙ ap (λ (l : List ℕ). laidAt l (numbersPerAnswer * made) (changeOf r a .answer)) (p .answers)
             ∙ ap (λ (k : ℕ). laidAt (over prefix buffer0) k (changeOf r a .answer)) (sym long)
             ∙ ap (λ (n : Numbers). laidAt (over prefix buffer0) (length prefix) n) number
             ∙ lay-more prefix buffer0 (numbersOf here) (omega arith)
@@ -154,11 +153,11 @@ module _ {r0 : State} {bytes buffer0 : List ℕ} {r : State} {buffer : List ℕ}
       }
 
   -- where no whole action stands
-  pub finish : decodedFrom bytes at ≡ stopped at → (replayed r Accepted made at ≡ ran r0 (decoded bytes)) × (buffer ≡ ranBuffer r0 (decoded bytes) buffer0)
+  pub finish : decodedFrom bytes at ≡ stopped at → (replayWith r Accepted made at ≡ ran r0 (decoded bytes)) × (buffer ≡ ranBuffer r0 (decoded bytes) buffer0)
   finish e =
       let whole : decoded bytes ≡ ends (p .done) at =
       p .rest ∙ ap (actionsFirst (p .done)) e ∙ ap (λ (l : List Action). ends l at) (append-nil (p .done)) in
-      subst (λ (d : Decoded). (replayed r Accepted made at ≡ ran r0 d) × (buffer ≡ ranBuffer r0 d buffer0)) (sym whole) (
-        ap (λ (q : State). replayed q Accepted made at) (p .state) ∙ ap (λ (k : ℕ). replayed (stateAfter r0 (p .done)) Accepted k at) (p .count),
+      subst (λ (d : Decoded). (replayWith r Accepted made at ≡ ran r0 d) × (buffer ≡ ranBuffer r0 d buffer0)) (sym whole) (
+        ap (λ (q : State). replayWith q Accepted made at) (p .state) ∙ ap (λ (k : ℕ). replayWith (stateAfter r0 (p .done)) Accepted k at) (p .count),
         p .answers,
       )

@@ -18,9 +18,9 @@ use Rattle.rules.specs.State.{reading, slotIndex, wordAt, placesReader, placesP
 use Rattle.rules.specs.Words.{pageIn, wordOf}
 use Rattle.rules.specs.Shape.{placesFit, countsFit, readerFits, wordsFit, usedFit, inShape}
 use Rattle.rules.specs.Read.{readLimit, planRead, fetched}
-use Rattle.rules.specs.Drain.{eventNumber, DrainOutcome, drainEnds, eventFirst, afterRead, readsInRow, drainReads}
+use Rattle.rules.specs.Drain.{eventNumber, DrainOutcome, drainWith, drainEnds, eventFirst, afterRead, readsInRow, drainReads}
 use Rattle.ring.specs.Pieces.{readAnswer, readPlaces, readPhase, readStores, wordsStored, usedStored, StoresPrecondition}
-use Rattle.ring.specs.Turn.{eventAt, eventsFrom, smaller, eventCount, placesBefore, leftAfter, turn, turnOf, turned, TurnPrecondition}
+use Rattle.ring.specs.Turn.{storedEvent, eventsFrom, smaller, eventCount, placesBefore, leftAfter, turn, turnOf, turned, TurnPrecondition}
 use Rattle.rules.specs.declared.state.PageNo.{PageNo}
 use Rattle.rules.specs.declared.state.Places.{Places}
 use Rattle.rules.specs.declared.state.Reader.{Reader}
@@ -36,7 +36,7 @@ use Rattle.rules.proofs.Lists.{by-cond}
 use Rattle.rules.proofs.shape.Laws.{InShape, in-shape, pages-true, places-true, counts-true}
 use Rattle.rules.proofs.state.Laws.{slotIndex-room}
 use Rattle.ring.proofs.pieces.Laws.{read-stores-precondition}
-use Rattle.ring.proofs.read.Laws.{Planned, limit-fits, next-fits, planned, plan-fits, event-here}
+use Rattle.ring.proofs.read.Laws.{Planned, limit-fits, next-fits, planned, plan-precondition, event-here}
 use Rattle.ring.proofs.read.Kept.{Parts, parts, reshaped, word-fits, set-word, no-used}
 
 -- ---- what is left of a drain
@@ -52,10 +52,10 @@ drains-on (suc space) r last = refl
 
 -- some events before others
 abbrev pub eventsFirst : List ℕ → DrainOutcome → DrainOutcome
-eventsFirst es d = record { state = d .state; events = es ++ d .events; last = d .last }
+eventsFirst es d = drainWith (d .state) (es ++ d .events) (d .last)
 
 eventsFirst-more : (es : List ℕ) (e : ℕ) (d : DrainOutcome) → eventsFirst es (eventFirst e d) ≡ eventsFirst (es ++ (e ∷ [])) d
-eventsFirst-more es e d = ap (λ (l : List ℕ). record { state = d .state; events = l; last = d .last }) (sym (append-snoc es e (d .events)))
+eventsFirst-more es e d = ap (λ (l : List ℕ). drainWith (d .state) l (d .last)) (sym (append-snoc es e (d .events)))
 
 -- one Read of a ring in shape
 module _ (q : State) (n l : ℕ) (last : Last) where
@@ -94,7 +94,7 @@ module _ (r : State) where
   slotAfter j = slotIndex (r .size) (r .places .reader) (r .places .position + j)
 
   abbrev event : ℕ → ℕ
-  event j = eventAt (r .numbers) (r .values) from j
+  event j = storedEvent (r .numbers) (r .values) from j
 
   -- the answer of the Read after j Events
   abbrev eventAnswer : ℕ → Answer
@@ -341,7 +341,7 @@ module _ (r : State) (whole : inShape r ≡ true) (space left : ℕ) (last : Las
         page = omega (arith, s);
         position = omega (arith, s);
         phase = s .phase;
-        fetch = plan-fits r s;
+        fetch = plan-precondition r s;
         events = record { page = omega (arith, s); agree = s .handed-overwritten; committed = s .committed; here = event-here r s };
         few = omega (arith, s);
         event = λ e.
@@ -353,7 +353,7 @@ module _ (r : State) (whole : inShape r ≡ true) (space left : ℕ) (last : Las
   pub turn-stores : StoresPrecondition (turnOf r left space .stores)
   turn-stores =
       let s = shaped in
-      read-stores-precondition (r .places .reader) (r .words) (planRead r) (plan-fits r s) (omega (arith, s))
+      read-stores-precondition (r .places .reader) (r .words) (planRead r) (plan-precondition r s) (omega (arith, s))
 
   -- the slots told are within the arrays
   pub turn-slots : turnOf r left space .from + turnOf r left space .count ≤ slotRoom

@@ -35,8 +35,8 @@ allows true depth h =
     (λ d. record { shape = refl; somebody = eqb-false depth 0 d })
 
 -- a full tail page leads to a drop or to another phase, which name nothing to store to
-full-fits : (r : State) (n : PageNo) (flag : ℕ) → MovePrecondition (planFull (r .size) (r .places) n flag)
-full-fits r n flag =
+full-precondition : (r : State) (n : PageNo) (flag : ℕ) → MovePrecondition (planFull (r .size) (r .places) n flag)
+full-precondition r n flag =
     by-cond MovePrecondition (samePage (r .places .tail) (r .places .reader)) (λ e. tt) (λ e.
     by-cond MovePrecondition (samePage n (r .places .commit)) (λ e. tt) (λ e.
     by-cond MovePrecondition (eqb flag headerFlag && readerOnCommit (r .places)) (λ e. tt) (λ e.
@@ -44,9 +44,9 @@ full-fits r n flag =
     by-cond MovePrecondition (eqb flag headerFlag || eqb flag updateFlag) (λ e. tt) (λ e. tt)))))
 
 -- PROMOTE names n alone, whatever was found
-promote-fits : (found : Search) (n : PageNo) (next : WriterPhase) → n .0 ≤ mostPages → MovePrecondition (promoteBy found n next)
-promote-fits (At p h) n next le = tt
-promote-fits Nowhere n next le = le
+promote-precondition : (found : Search) (n : PageNo) (next : WriterPhase) → n .0 ≤ mostPages → MovePrecondition (promoteBy found n next)
+promote-precondition (At p h) n next le = tt
+promote-precondition Nowhere n next le = le
 
 module _ (r : State) (s : InShape r) where
   pages-room : (t n : PageNo) → pagesFit t n (r .size .pages) ≡ true → (t .0 ≤ mostPages) × (n .0 ≤ mostPages)
@@ -54,28 +54,28 @@ module _ (r : State) (s : InShape r) where
       let f = pages-fit t n (r .size .pages) h in
       (omega (arith, s), omega (arith, s))
 
-  phase-fits : (ph : WriterPhase) → writerFits ph (r .size) ≡ true → MovePrecondition (planPhase ph (r .size) (r .places) (r .depth) (r .words) (r .used))
-  phase-fits phase.Want h =
+  phase-precondition : (ph : WriterPhase) → writerFits ph (r .size) ≡ true → MovePrecondition (planPhase ph (r .size) (r .places) (r .depth) (r .words) (r .used))
+  phase-precondition phase.Want h =
       by-cond MovePrecondition (ltb (usedAt (r .used) (r .places .tail)) (r .size .slots))
       (λ e. (omega (arith, s), omega (arith, s, ltb-true (usedAt (r .used) (r .places .tail)) (r .size .slots) e)))
-      (λ e. full-fits r (pageIn (wordAt (r .words) (r .places .tail))) (flagIn (wordAt (r .words) (r .places .tail))))
-  phase-fits (phase.Mark t n) h =
+      (λ e. full-precondition r (pageIn (wordAt (r .words) (r .places .tail))) (flagIn (wordAt (r .words) (r .places .tail))))
+  phase-precondition (phase.Mark t n) h =
       by-cond MovePrecondition (links (r .words) t n headerFlag)
       (λ e. pages-room t n h)
       (λ e. by-cond MovePrecondition (links (r .words) t n updateFlag) (λ e. tt) (λ e. tt))
-  phase-fits (phase.Promote t n own) h =
-      promote-fits (findHeader (r .words) (r .size .pages) (r .places .reader)) n _ (pages-room t n h .1)
-  phase-fits (phase.Clear t n) h = by-cond MovePrecondition (links (r .words) t n updateFlag) (λ e. pages-room t n h) (λ e. tt)
-  phase-fits (phase.Push t n) h = by-cond MovePrecondition (samePage (r .places .tail) t) (λ e. pages-room t n h .1) (λ e. tt)
-  phase-fits (phase.Held p slot) h =
+  phase-precondition (phase.Promote t n own) h =
+      promote-precondition (findHeader (r .words) (r .size .pages) (r .places .reader)) n _ (pages-room t n h .1)
+  phase-precondition (phase.Clear t n) h = by-cond MovePrecondition (links (r .words) t n updateFlag) (λ e. pages-room t n h) (λ e. tt)
+  phase-precondition (phase.Push t n) h = by-cond MovePrecondition (samePage (r .places .tail) t) (λ e. pages-room t n h .1) (λ e. tt)
+  phase-precondition (phase.Held p slot) h =
       let f = held-fits p slot (r .size) h in
       (omega (arith, s), omega (arith, s))
-  phase-fits phase.Filled h = by-cond MovePrecondition (eqb (r .depth) 1) (λ e. tt) (λ e. tt)
+  phase-precondition phase.Filled h = by-cond MovePrecondition (eqb (r .depth) 1) (λ e. tt) (λ e. tt)
 
   module _ (somebody : r .depth ≡ 0 → ⊥) where
     -- the top record's phase fits, and so does the move that it leads to
     pub top-fits : writerFits (top r .phase) (r .size) ≡ true
     top-fits = s .record-at (r .depth - 1) (omega arith)
 
-    pub plan-fits : MovePrecondition (planWrite r)
-    plan-fits = phase-fits (top r .phase) top-fits
+    pub plan-precondition : MovePrecondition (planWrite r)
+    plan-precondition = phase-precondition (top r .phase) top-fits

@@ -9,7 +9,7 @@ use lib.ListN.{length, getD}
 use Rattle.rules.specs.History.{runAt}
 use Rattle.rules.specs.State.{page, State}
 use Rattle.rules.specs.Remember.{By, History, unbegun}
-use Rattle.rules.specs.Demand.{Some, RingPage, moves, Visits, OneHeader, NoHeader}
+use Rattle.rules.specs.Demand.{Some, RingPage, movesFrom, Visits, OneHeader, NoHeader}
 use Rattle.rules.specs.declared.state.PageNo.{PageNo}
 use Rattle.rules.proofs.invariant.Order.{N, S, R, T, nextOf, phaseAt, place}
 use Rattle.rules.proofs.invariant.Control.{RecordOk, Owns, Headed, Headless, Flags, headed, headless, Control}
@@ -20,7 +20,7 @@ use Rattle.rules.proofs.order.Walk.{walk, walks}
 -- ---- moves and lists
 
 -- k moves, by the numbers of the pages
-moves-walk : (words : List ℕ) (k : ℕ) (p : PageNo) → moves words k p .0 ≡ walk words k (p .0)
+moves-walk : (words : List ℕ) (k : ℕ) (p : PageNo) → movesFrom words k p .0 ≡ walk words k (p .0)
 moves-walk words zero p = refl
 moves-walk words (suc k) p = ap (nextOf words) (moves-walk words k p)
 
@@ -49,7 +49,7 @@ module _ {s : State} {L : ℕ → ℕ} {pc pt : ℕ} (v : Control s L pc pt) whe
   pub visits : (p : PageNo) → RingPage s p → Visits s p
   visits p ring =
       let w = walks (v .links) (p .0) (ring .page) (off-reader ring) in
-      let same : (k : ℕ) → moves (s .words) k p .0 ≡ walk (s .words) k (p .0) = λ k. moves-walk (s .words) k p in
+      let same : (k : ℕ) → movesFrom (s .words) k p .0 ≡ walk (s .words) k (p .0) = λ k. moves-walk (s .words) k p in
       record {
         stays = λ k. ring-page (rw (same k) (w .stays k .0)) (rw (same k) (w .stays k .1));
         once = λ j k hj hk e. w .once j k hj hk (sym (same (suc j)) ∙ page-once e ∙ same (suc k));

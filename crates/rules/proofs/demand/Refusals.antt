@@ -92,13 +92,13 @@ module _ (s : State) where
     refusals action.Read = rw fits read-not-refused
 
     -- a refused action gives the same ring back
-    same-ring : (a : Action) → listed s a ≢ 0 → act s a .state ≡ s
-    same-ring (action.Begin v) =
+    same-state : (a : Action) → listed s a ≢ 0 → act s a .state ≡ s
+    same-state (action.Begin v) =
         by-bool (eqb (s .depth) mostDepth)
         (λ d. rw (fits, d) (λ n. refl))
         (λ d. by-bool (eqb (s .counts .begun) mostCount) (λ w. rw (fits, d, w) (λ n. refl)) (λ w. rw (fits, d, w) (λ n. absurd (n refl))))
-    same-ring action.Write = by-bool (eqb (s .depth) 0) (λ d. rw (fits, d) (λ n. refl)) (λ d. rw (fits, d) (λ n. absurd (n refl)))
-    same-ring action.Read = λ n. absurd (n refl)
+    same-state action.Write = by-bool (eqb (s .depth) 0) (λ d. rw (fits, d) (λ n. refl)) (λ d. rw (fits, d) (λ n. absurd (n refl)))
+    same-state action.Read = λ n. absurd (n refl)
 
     pub sound : Sound s
-    sound = record { shape = fits; refusals = refusals; same = same-ring; receipt = rw fits }
+    sound = record { shape = fits; refusals = refusals; same = same-state; receipt = rw fits }

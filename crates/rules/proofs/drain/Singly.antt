@@ -11,7 +11,7 @@ use Rattle.rules.specs.Shape.{inShape}
 use Rattle.rules.specs.Read.{readRule}
 use Rattle.rules.specs.Replay.{stateAfter, answersOf, Reached}
 use Rattle.rules.specs.Limits.{mostInRow}
-use Rattle.rules.specs.Drain.{Kind, event, ending, quiet, kindOf, DrainOutcome, drainEnds, byKind, readsInRow, drainReads, drainRule, eventsAmong, lastOf, Singly}
+use Rattle.rules.specs.Drain.{DrainKind, event, ending, quiet, drainKind, DrainOutcome, drainEnds, byKind, readsInRow, drainReads, drainRule, eventsAmong, lastOf, Singly}
 use Rattle.rules.specs.State.{State}
 use Rattle.rules.specs.declared.state.Action.{Action}
 use Rattle.rules.specs.declared.state.Action.the-variants.{Read}
@@ -44,7 +44,7 @@ module _ (r : State) (last : Last) where
   told = Given (readRule r .answer)
 
   one-made :
-      (k : Kind) → kindOf (readRule r .answer) ≡ k → (later on : DrainOutcome) → From then told later → From then told on →
+      (k : DrainKind) → drainKind (readRule r .answer) ≡ k → (later on : DrainOutcome) → From then told later → From then told on →
       From r last (byKind k later (drainEnds then told) on)
   one-made (event e) q later on a b =
       record {
@@ -56,16 +56,16 @@ module _ (r : State) (last : Last) where
   one-made ending q later on a b = record { count = 1; state = refl; events = rw q; last-is = refl }
   one-made quiet q later on a b = record { count = suc (b .count); state = b .state; events = rw q (b .events); last-is = b .last-is }
 
-row-made : (later : State → Last → DrainOutcome) → ((r : State) (last : Last) → From r last (later r last)) → (left : ℕ) (r : State) (last : Last) → From r last (readsInRow later left r last)
-row-made later made zero r last = none-made r last
-row-made later made (suc left) r last =
-    one-made r last (kindOf (readRule r .answer)) refl (later (then r last) (told r last)) (readsInRow later left (then r last) (told r last))
+in-row-made : (later : State → Last → DrainOutcome) → ((r : State) (last : Last) → From r last (later r last)) → (left : ℕ) (r : State) (last : Last) → From r last (readsInRow later left r last)
+in-row-made later made zero r last = none-made r last
+in-row-made later made (suc left) r last =
+    one-made r last (drainKind (readRule r .answer)) refl (later (then r last) (told r last)) (readsInRow later left (then r last) (told r last))
     (made (then r last) (told r last))
-    (row-made later made left (then r last) (told r last))
+    (in-row-made later made left (then r last) (told r last))
 
-drained-made : (most space : ℕ) (r : State) (last : Last) → From r last (drainReads most space r last)
-drained-made most zero r last = none-made r last
-drained-made most (suc space) r last = row-made (drainReads most space) (drained-made most space) most r last
+reads-made : (most space : ℕ) (r : State) (last : Last) → From r last (drainReads most space r last)
+reads-made most zero r last = none-made r last
+reads-made most (suc space) r last = in-row-made (drainReads most space) (reads-made most space) most r last
 
 -- out of shape it is the one Read that is refused
 refused : (r : State) → inShape r ≡ false → gives (answer.Refused Shape) r ≡ readRule r
@@ -87,7 +87,7 @@ pub drain-singly : (r : State) (space : ℕ) → Singly r (drainRule r space)
 unfolding refused-made
 drain-singly r space =
     by-bool (inShape r)
-    (λ e. rw e (singly (drained-made mostInRow space r None) (λ f. absurd (true≢false (sym e ∙ f)))))
+    (λ e. rw e (singly (reads-made mostInRow space r None) (λ f. absurd (true≢false (sym e ∙ f)))))
     (λ e. rw e (singly (refused-made r e) (λ f. refl)))
 
 pub drain-reached : (r : State) (space : ℕ) → Reached r → Reached (drainRule r space .state)

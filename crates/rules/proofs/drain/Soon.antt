@@ -7,7 +7,7 @@ use Prim.Native.Nat.{ℕ, zero, suc, _≤_}
 use native.Mathlib.Omega.{arith}
 use Rattle.rules.specs.Answers.{Outcome}
 use Rattle.rules.specs.Read.{readRule}
-use Rattle.rules.specs.Drain.{Kind, event, ending, quiet, kindOf, DrainOutcome, drainEnds, eventFirst, byKind, afterRead, readsInRow, Brought, anEvent, anEmpty, aBusy}
+use Rattle.rules.specs.Drain.{DrainKind, event, ending, quiet, drainKind, DrainOutcome, drainEnds, eventFirst, byKind, afterRead, readsInRow, Brought, anEvent, anEmpty, aBusy}
 use Rattle.rules.specs.State.{State}
 use Rattle.rules.specs.declared.state.Answer.{Answer}
 use Rattle.rules.specs.declared.state.Last.{Last}
@@ -23,7 +23,7 @@ ok-read s g = record { history = _; all = read-next 0 s (g .history) (g .all) }
 
 pub data Soon : ℕ → Outcome → Type 0 where
   brought : {k : ℕ} {o : Outcome} → Brought (Given (o .answer)) → Soon k o
-  next : {k : ℕ} {o : Outcome} → kindOf (o .answer) ≡ quiet → Soon k (readRule (o .state)) → Soon (suc k) o
+  next : {k : ℕ} {o : Outcome} → drainKind (o .answer) ≡ quiet → Soon k (readRule (o .state)) → Soon (suc k) o
 
 event-not-quiet : (e : ℕ) → event e ≡ quiet → ⊥
 event-not-quiet e q =
@@ -35,7 +35,7 @@ ending-not-quiet q =
     let z : _≡_ {A = ℕ} 0 1 = cc in
     omega arith
 
-not-quiet : {a : Answer} → Brought (Given a) → kindOf a ≡ quiet → ⊥
+not-quiet : {a : Answer} → Brought (Given a) → drainKind a ≡ quiet → ⊥
 not-quiet (anEvent n v) q = event-not-quiet _ q
 not-quiet anEmpty q = ending-not-quiet q
 not-quiet aBusy q = ending-not-quiet q
@@ -49,10 +49,10 @@ following later left o = afterRead later (readsInRow later left) o
 -- any two limits that are not too low
 module _ (later later' : State → Last → DrainOutcome) (same : (s : State) → RingOk s → (last : Last) → later s last ≡ later' s last) where
   brought-same : (a : Answer) (s : State) → RingOk s → Brought (Given a) → (end on on' : DrainOutcome)
-      → byKind (kindOf a) (later s (Given a)) end on ≡ byKind (kindOf a) (later' s (Given a)) end on'
-  brought-same a s g b end on on' = go (kindOf a) refl
+      → byKind (drainKind a) (later s (Given a)) end on ≡ byKind (drainKind a) (later' s (Given a)) end on'
+  brought-same a s g b end on on' = go (drainKind a) refl
     where
-      go : (kind : Kind) → kindOf a ≡ kind → byKind kind (later s (Given a)) end on ≡ byKind kind (later' s (Given a)) end on'
+      go : (kind : DrainKind) → drainKind a ≡ kind → byKind kind (later s (Given a)) end on ≡ byKind kind (later' s (Given a)) end on'
       go (event e) q = ap (eventFirst e) (same s g (Given a))
       go ending q = refl
       go quiet q = absurd (not-quiet b q)
@@ -64,19 +64,19 @@ module _ (later later' : State → Last → DrainOutcome) (same : (s : State) �
   following-same (next q rest) g (suc n) zero x y = absurd (omega arith)
   following-same {o = o} (next q rest) g (suc n) (suc m) x y = rw q (following-same rest (ok-read (o .state) g) n m (omega arith) (omega arith))
 
-  pub row-same : (k : ℕ) (s : State) → RingOk s → Soon k (readRule s) → (n m : ℕ) → suc k ≤ n → suc k ≤ m → (last : Last)
+  pub in-row-same : (k : ℕ) (s : State) → RingOk s → Soon k (readRule s) → (n m : ℕ) → suc k ≤ n → suc k ≤ m → (last : Last)
       → readsInRow later n s last ≡ readsInRow later' m s last
-  row-same k s g soon zero m x y last = absurd (omega arith)
-  row-same k s g soon (suc n) zero x y last = absurd (omega arith)
-  row-same k s g soon (suc n) (suc m) x y last = following-same soon (ok-read s g) n m (omega arith) (omega arith)
+  in-row-same k s g soon zero m x y last = absurd (omega arith)
+  in-row-same k s g soon (suc n) zero x y last = absurd (omega arith)
+  in-row-same k s g soon (suc n) (suc m) x y last = following-same soon (ok-read s g) n m (omega arith) (omega arith)
 
 -- the last answer
 module _ (later : State → Last → DrainOutcome) (lasts : (s : State) → RingOk s → (last : Last) → Brought last → Brought (later s last .last)) where
   brought-last : (a : Answer) (s : State) → RingOk s → Brought (Given a) → (on : DrainOutcome)
-      → Brought (byKind (kindOf a) (later s (Given a)) (drainEnds s (Given a)) on .last)
-  brought-last a s g b on = go (kindOf a) refl
+      → Brought (byKind (drainKind a) (later s (Given a)) (drainEnds s (Given a)) on .last)
+  brought-last a s g b on = go (drainKind a) refl
     where
-      go : (kind : Kind) → kindOf a ≡ kind → Brought (byKind kind (later s (Given a)) (drainEnds s (Given a)) on .last)
+      go : (kind : DrainKind) → drainKind a ≡ kind → Brought (byKind kind (later s (Given a)) (drainEnds s (Given a)) on .last)
       go (event e) q = lasts s g (Given a) b
       go ending q = b
       go quiet q = absurd (not-quiet b q)
@@ -86,7 +86,7 @@ module _ (later : State → Last → DrainOutcome) (lasts : (s : State) → Ring
   following-brings (next q rest) g zero x = absurd (omega arith)
   following-brings {o = o} (next q rest) g (suc n) x = rw q (following-brings rest (ok-read (o .state) g) n (omega arith))
 
-  pub row-brings : (k : ℕ) (s : State) → RingOk s → Soon k (readRule s) → (n : ℕ) → suc k ≤ n → (last : Last)
+  pub in-row-brings : (k : ℕ) (s : State) → RingOk s → Soon k (readRule s) → (n : ℕ) → suc k ≤ n → (last : Last)
       → Brought (readsInRow later n s last .last)
-  row-brings k s g soon zero x last = absurd (omega arith)
-  row-brings k s g soon (suc n) x last = following-brings soon (ok-read s g) n (omega arith)
+  in-row-brings k s g soon zero x last = absurd (omega arith)
+  in-row-brings k s g soon (suc n) x last = following-brings soon (ok-read s g) n (omega arith)

@@ -29,7 +29,7 @@ use Rattle.rules.specs.declared.moves.Fetch.{Fetch}
 use Rattle.rules.specs.declared.moves.Fetch.the-variants as fetch
 use Rattle.rules.proofs.Lists.{by-bool, by-cond}
 use Rattle.rules.proofs.control.Swap.{commit-ahead, h-oldest}
-use Rattle.rules.proofs.drain.Soon.{ok-read, Soon, brought, next, row-same, row-brings}
+use Rattle.rules.proofs.drain.Soon.{ok-read, Soon, brought, next, in-row-same, in-row-brings}
 use Rattle.rules.proofs.invariant.Order.{N, S, R, C, usedOf, Found, Ready, place}
 use Rattle.rules.proofs.order.Search.{Tells, search-tells}
 use Rattle.rules.proofs.runs.Reached.{RingOk, ok-shape, reached-ok}
@@ -150,25 +150,25 @@ within-six s g = go (s .reader .phase) refl
 
 module _ (most : ℕ) (fits : enough ≤ most) where
   -- the last answer; where there is no space, it is the one before
-  drained-brings : (space : ℕ) (s : State) → RingOk s → (last : Last) → (space ≡ 0 → Brought last) → Brought (drainReads most space s last .last)
-  drained-brings zero s g last b = b refl
-  drained-brings (suc space) s g last b =
-      row-brings (drainReads most space) (λ s g last b. drained-brings space s g last (λ q. b)) 5 s g (within-six s g) most fits last
+  reads-bring : (space : ℕ) (s : State) → RingOk s → (last : Last) → (space ≡ 0 → Brought last) → Brought (drainReads most space s last .last)
+  reads-bring zero s g last b = b refl
+  reads-bring (suc space) s g last b =
+      in-row-brings (drainReads most space) (λ s g last b. reads-bring space s g last (λ q. b)) 5 s g (within-six s g) most fits last
 
   -- the same as with the limit of eight
-  drained-same : (space : ℕ) (s : State) → RingOk s → (last : Last) → drainReads most space s last ≡ drainReads mostInRow space s last
-  drained-same zero s g last = refl
-  drained-same (suc space) s g last =
-      row-same (drainReads most space) (drainReads mostInRow space) (drained-same space) 5 s g (within-six s g) most mostInRow fits (omega arith) last
+  reads-same : (space : ℕ) (s : State) → RingOk s → (last : Last) → drainReads most space s last ≡ drainReads mostInRow space s last
+  reads-same zero s g last = refl
+  reads-same (suc space) s g last =
+      in-row-same (drainReads most space) (drainReads mostInRow space) (reads-same space) 5 s g (within-six s g) most mostInRow fits (omega arith) last
 
 pub reached-brings : (r : State) → Reached r → Brings r
 reached-brings r h =
     let g = reached-ok r h in
     record {
-      within = drained-brings enough (omega arith) 1 r g None (λ q. absurd (omega arith));
+      within = reads-bring enough (omega arith) 1 r g None (λ q. absurd (omega arith));
       ends = λ space.
           by-cond (λ (d : DrainOutcome). Brought (d .last)) (inShape r)
-          (λ fits. drained-brings mostInRow (omega arith) (suc space) r g None (λ q. absurd (omega arith)))
+          (λ fits. reads-bring mostInRow (omega arith) (suc space) r g None (λ q. absurd (omega arith)))
           (λ fits. absurd (true≢false (sym (ok-shape r g) ∙ fits)));
-      sameAbove = λ most space fits. drained-same most fits space r g None;
+      sameAbove = λ most space fits. reads-same most fits space r g None;
     }

@@ -22,7 +22,7 @@ pub after-now : (r : Run) (actions : List Action) → after r actions .now ≡ s
 after-now r [] = refl
 after-now r (a ∷ rest) = after-now (next r a) rest
 
-after-append : (r : State) (past done : List Action) → stateAfter r (past ++ done) ≡ stateAfter (stateAfter r past) done
+pub after-append : (r : State) (past done : List Action) → stateAfter r (past ++ done) ≡ stateAfter (stateAfter r past) done
 after-append r [] done = refl
 after-append r (a ∷ past) done = after-append (act r a .state) past done
 
@@ -31,8 +31,8 @@ reached-more r h done =
     record {
       size = h .size;
       fits = h .fits;
-      past = h .past ++ done;
-      reached = ap (λ (q : State). stateAfter q done) (h .reached) ∙ sym (after-append (freshRing (h .size)) (h .past) done);
+      actions = h .actions ++ done;
+      reached = ap (λ (q : State). stateAfter q done) (h .reached) ∙ sym (after-append (freshRing (h .size)) (h .actions) done);
     }
 
 -- a ring with the invariant
@@ -46,8 +46,8 @@ ok-shape s g = invariant-inShape (g .all .control) (g .all .accounts) (g .all .b
 pub reached-ok : (s : State) → Reached s → RingOk s
 reached-ok s h =
     let start : Run = runAt (freshRing (h .size)) nothing in
-    let now : RingOk (after start (h .past) .now) = record { history = _; all = after-invariant (h .past) start (fresh-invariant (h .size) (h .fits)) } in
-    rw (h .reached) (subst RingOk (after-now start (h .past)) now)
+    let now : RingOk (after start (h .actions) .now) = record { history = _; all = after-invariant (h .actions) start (fresh-invariant (h .size) (h .fits)) } in
+    rw (h .reached) (subst RingOk (after-now start (h .actions)) now)
 
 pub reached-shape : (r : State) → Reached r → (done : List Action) → inShape (stateAfter r done) ≡ true
 reached-shape r h done = ok-shape (stateAfter r done) (reached-ok (stateAfter r done) (reached-more r h done))

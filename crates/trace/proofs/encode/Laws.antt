@@ -1,4 +1,4 @@
--- What the proofs of the encoder share: where a call is not refused there is capacity, and a run of stores is bytes put at a place.
+-- What the proofs of the encoder share: where a call is not refused the bytes lent suffice, and a run of stores is bytes put at a place.
 -- Assumes nothing.
 use mathlib.Core.Path.{_≡_, refl}
 use mathlib.Core.Bool.{true, not}

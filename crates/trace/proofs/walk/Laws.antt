@@ -14,7 +14,7 @@ use Rattle.rules.specs.Lists.{first}
 use Rattle.rules.specs.State.{sizeOf, State}
 use Rattle.rules.specs.Shape.{sizeFits}
 use Rattle.rules.specs.Actions.{Decoded, byteAt, decoded, Decodes}
-use Rattle.rules.specs.Replay.{answerNumbers, ranBuffer, bufferFits, bufferRule, refusedReplay, ran, replayRule, ReplayOutcome}
+use Rattle.rules.specs.Replay.{numbersPerAnswer, ranBuffer, bufferFits, bufferRule, refusedReplay, ran, replayRule, ReplayOutcome}
 use Rattle.trace.specs.Header.{modeOf, setUp, pagesAt, slotsAt, modeAt, setUpIn, headerRows, headerOf}
 use Rattle.trace.specs.Replays.{walkPlace, walkBytes, walkActions, wholeTo, walked, headerRing, replayedBy, replayedFrom, NineRight}
 use Rattle.rules.specs.declared.state.Refusal.{Refusal}
@@ -78,11 +78,11 @@ module _ (bytes buffer : List ℕ) (at from : ℕ) (e : from ≡ walkPlace (leng
   walk-length : length (walkBytes bytes at) ≡ length bytes - from
   walk-length = length-drop (walkPlace (length bytes) at) bytes ∙ ap (λ (k : ℕ). length bytes - k) (sym e)
 
-  pub buffer-short : length buffer / answerNumbers < length bytes - from → bufferFits (walkBytes bytes at) buffer ≡ false
-  buffer-short l = ap not (lt-ltb (length buffer / answerNumbers) (length (walkBytes bytes at)) (rw walk-length l))
+  pub buffer-short : length buffer / numbersPerAnswer < length bytes - from → bufferFits (walkBytes bytes at) buffer ≡ false
+  buffer-short l = ap not (lt-ltb (length buffer / numbersPerAnswer) (length (walkBytes bytes at)) (rw walk-length l))
 
-  pub buffer-enough : length bytes - from ≤ length buffer / answerNumbers → bufferFits (walkBytes bytes at) buffer ≡ true
-  buffer-enough l = ap not (le-ltb (length buffer / answerNumbers) (length (walkBytes bytes at)) (rw walk-length l))
+  pub buffer-enough : length bytes - from ≤ length buffer / numbersPerAnswer → bufferFits (walkBytes bytes at) buffer ≡ true
+  buffer-enough l = ap not (le-ltb (length buffer / numbersPerAnswer) (length (walkBytes bytes at)) (rw walk-length l))
 
   -- the part of the bytes that the code passes on
   pub walk-part : take (length bytes - from) (drop from bytes) ≡ walkBytes bytes at
@@ -138,15 +138,15 @@ module _ (bytes : List ℕ) (at : ℕ) where
   header-not-action : (why : Refusal) → OfHeader why → why ≡ refusal.Action → ⊥
   header-not-action why h e = subst OfHeader e h
 
-  buffer-not-action : refusal.Room ≡ refusal.Action → ⊥
-  buffer-not-action e = let z : _≡_ {A = ℕ} 0 1 = cc in omega arith
+  room-not-action : refusal.Room ≡ refusal.Action → ⊥
+  room-not-action e = let z : _≡_ {A = ℕ} 0 1 = cc in omega arith
 
   by-right : (buffer : List ℕ) (h : Header) → Accepts h → NineRight bytes (replayedBy h bytes at buffer)
   by-right buffer (Refused why) ok = refused-right why (refusedReplay why) (header-not-action why ok) refl
   by-right buffer (Ready pages slots mode) ok =
       by-cond (NineRight bytes) (bufferFits (walkBytes bytes at) buffer)
       (λ e. walked-right (headerRing pages slots mode))
-      (λ e. refused-right refusal.Room (refusedReplay refusal.Room) buffer-not-action refl)
+      (λ e. refused-right refusal.Room (refusedReplay refusal.Room) room-not-action refl)
 
   pub nine-right : (buffer : List ℕ) → NineRight bytes (replayedFrom bytes at buffer)
   unfolding replayedFrom

@@ -87,14 +87,14 @@ module _ {M : Type 1} (𝓤 : URA M) (H : Heap 𝓤) (A : Atoms 𝓤) (W : Given
   Some zs = guard 𝓤 (length zs ≡ length ys) (sep 𝓤 (sem 𝓤 H A (whole-buffer zs)) (A .lft κ q))
 
   comes-back-some : (δ : GName) → Room u64 (length ys) → ent 𝓤 (sep 𝓤 (A .dead κ′) (sem 𝓤 H A (LentAgain u64 κ κ′ q γ b o δ ys))) (H .⇛ (ex 𝓤 Some))
-  comes-back-some δ buffer =
+  comes-back-some δ room =
       qed W (‵ (fdead κ′) ∷ ‵ (LentAgain u64 κ κ′ q γ b o δ ys) ∷ []) ∵ updating ! $ move ! (1 ∷ []) $ fsplit ! $ move ! (2 ∷ 0 ∷ []) $ lent-back ! tt $ fpick ! (λ hs. fsplit ! $ move ! (1 ∷ []) $ drop ! $
       -- [the elements, of which some may be lent on still; what else is kept]
       use1 W (some (λ (zs : List ℕ). ‵ (Arr (Holey (in-memory u64)) (length ys) .lies (heres u64 zs) b o))) (settle-any 𝓤 H A W (in-memory u64) (length ys) hs b o) $ pick ! (λ zs. fsplit ! $ feqL ! (λ l.
       let e : length zs ≡ length ys = sym (length-map zs (here (in-memory u64))) ∙ l in
       use1 W (‵ (cells (in-memory u64) zs b o)) (heres-out 𝓤 H A W (in-memory u64) zs b o) $ use1 W (‵ (row u64 fullShare zs b o)) (whole-out 𝓤 H A W u64 zs b o) $
       move ! (1 ∷ []) $ fsplit ! $ move ! (1 ∷ []) $ fsplit ! $ move ! (3 ∷ 2 ∷ 0 ∷ 1 ∷ []) $ closes-slice ! tt u64 ys zs e b o $ at-once ! $ show ! Some zs $ check ! e $
-      fjoin ! $ pureI ! (at-slice u64 (record { ptr = (b, o); name = γ; now = zs }) (sliceVal (b, o) (length ys) ∷ [])) (tt, (tt, tt)) (ap (λ (n : ℕ). sliceVal (b, o) n ∷ []) (sym e), subst (Room u64) (sym e) buffer) $ fjoin ! $ done !)))
+      fjoin ! $ pureI ! (at-slice u64 (record { ptr = (b, o); name = γ; now = zs }) (sliceVal (b, o) (length ys) ∷ [])) (tt, (tt, tt)) (ap (λ (n : ℕ). sliceVal (b, o) n ∷ []) (sym e), subst (Room u64) (sym e) room) $ fjoin ! $ done !)))
 
 -- ---- the function, with any types ρ for a ring, σ for a last answer and τ for the result
 
@@ -198,13 +198,13 @@ module _ {M : Type 1} (𝓤 : URA M) (H : Heap 𝓤) (A : Atoms 𝓤) (W : Given
       (back-typed : (ν : ℕ) (h : DrainPart) (v : Val) → Is (T.the-row (α ν)) h (v ∷ []) → Holds (hasTy (DrainPartTy ρ σ) v) × WT v)
       (seen-typed : (h : Seen) (v : Val) → Is S.the-row h (v ∷ []) → Holds (hasTy τ v) × WT v) where
     walk : Is R.the-row r (ring r ∷ []) → Room u64 (length ys) → n < 2 ^ 64 → ent 𝓤 (onEntry 𝓤 H A drain-once.signature (κ, tt) (q, tt) (r, (x γ ys, (n, tt))) vals) (WpFn 𝓤 H C Λ (shape ρ σ τ) (ring r ∷ s ∷ vint w64 n ∷ []) Post)
-    walk is-ring buffer fits =
+    walk is-ring room fits =
         qed W ((‵ (flft κ q) ⊛ ‵ ftrue) ∷ ‵ (owns (R.the-row ∷ MutSlice (named 0) κ u64 ∷ u64 ∷ []) (r, (x γ ys, (n, tt))) vals) ∷ []) ∵ enter ! C Λ (shape ρ σ τ) (ring r ∷ s ∷ vint w64 n ∷ []) _ $
         alloc1 ! (λ l₀. alloc1 ! (λ l₁. alloc1 ! (λ l₂. alloc1 ! (λ l₃. alloc1 ! (λ l₄. alloc1 ! (λ l₅. alloc1 ! (λ l₆. alloc1 ! (λ l₇. alloc1 ! (λ l₈. alloc1 ! (λ l₉. alloc1 ! (λ l₁₀. alloc0 ! $ params1 ! $
-        pass1 ! (init ! 18 refl (ring-typed r (ring r) is-ring)) $ pass1 ! (init ! 16 refl (tt, (tt, (record { fits = buffer .0 }, tt)))) $ pass1 ! (init ! 14 refl (tt, record { fits = fits })) $ pass0 ! $
+        pass1 ! (init ! 18 refl (ring-typed r (ring r) is-ring)) $ pass1 ! (init ! 16 refl (tt, (tt, (record { fits = room .0 }, tt)))) $ pass1 ! (init ! 14 refl (tt, record { fits = fits })) $ pass0 ! $
         -- [_10; …; _9; …; _8; …; _7; …; _6; …; _5; …; _4; …; _3; …; _2; …; _1; …; room for _0; …; the token; what the ring, the buffer and the number own]
         assigns ! (addr ! (from ! (fld ! refl (hop ! (look-in ! 16 (sub ! 0 refl (whole !))) (stop !))))) (from ! (stop !)) (init ! 10 refl (tt, tt)) $
-        assigns ! (agg ! (and-then ! (load ! (from ! (stop !)) (look ! 10 refl)) (and-then ! (load ! (from ! (fld ! refl (stop !))) (look-in ! 16 (sub ! 1 refl (whole !)))) (no-more !)))) (from ! (stop !)) (init ! 8 refl (tt, (tt, (record { fits = buffer .0 }, tt)))) $
+        assigns ! (agg ! (and-then ! (load ! (from ! (stop !)) (look ! 10 refl)) (and-then ! (load ! (from ! (fld ! refl (stop !))) (look-in ! 16 (sub ! 1 refl (whole !)))) (no-more !)))) (from ! (stop !)) (init ! 8 refl (tt, (tt, (record { fits = room .0 }, tt)))) $
         -- the buffer is lent again, for a lifetime ν
         move ! (23 ∷ []) $ fsplit ! $ move ! (1 ∷ []) $ fsplit ! $ move ! (25 ∷ []) $ split ! $ lft-new ! tt (λ ν. move ! (3 ∷ 1 ∷ []) $
         use2 W (later (some (λ (δ : GName). ‵ (MutSlice (named 0) (ν ∷ []) u64 .own (x δ ys) (s ∷ [])) ⊛ ‵ (LentAgain u64 κ (ν ∷ []) q γ b o δ ys)))) (lends-again u64 κ (ν ∷ []) q γ b o 𝓤 H A W (named 0) (named 0) ys) $ await ! tt $ pick ! (λ δ. split ! $
@@ -233,7 +233,7 @@ module _ {M : Type 1} (𝓤 : URA M) (H : Heap 𝓤) (A : Atoms 𝓤) (W : Given
         land ! (from ! (stop !)) (init ! 25 refl (seen-typed t v is′)) $
         -- the lifetime is ended, and the buffer comes back at some list zs
         move ! (1 ∷ []) $ split ! $ lft-end ! tt $ move ! (0 ∷ 3 ∷ []) $
-        use2 W (later (some (λ (zs : List ℕ). given (length zs ≡ length ys) (‵ (MutSlice (named 0) κ u64 .own (x γ zs) (s ∷ [])) ⊛ ‵ (flft κ q))))) (comes-back-some 𝓤 H A W κ (ν ∷ []) q γ b o ys δ buffer) $ await ! tt $ pick ! (λ zs. learn ! (λ e. split ! $
+        use2 W (later (some (λ (zs : List ℕ). given (length zs ≡ length ys) (‵ (MutSlice (named 0) κ u64 .own (x γ zs) (s ∷ [])) ⊛ ‵ (flft κ q))))) (comes-back-some 𝓤 H A W κ (ν ∷ []) q γ b o ys δ room) $ await ! tt $ pick ! (λ zs. learn ! (λ e. split ! $
         -- [what the buffer owns; its token; …; what was seen; …; …; _10; …]
         returns ! (look ! 26 refl) $ forget ! 6 refl $ forget ! 8 refl $ forget ! 10 refl $ forget ! 12 refl $ forget ! 14 refl $ forget ! 16 refl $ forget ! 18 refl $ forget ! 20 refl $ forget ! 22 refl $ forget ! 24 refl $ forget ! 26 refl $
         move ! (26 ∷ 27 ∷ []) $ free1 ! $ move ! (24 ∷ 25 ∷ []) $ free1 ! $ move ! (22 ∷ 23 ∷ []) $ free1 ! $ move ! (20 ∷ 21 ∷ []) $ free1 ! $ move ! (18 ∷ 19 ∷ []) $ free1 ! $ move ! (16 ∷ 17 ∷ []) $ free1 ! $ move ! (14 ∷ 15 ∷ []) $ free1 ! $ move ! (12 ∷ 13 ∷ []) $ free1 ! $ move ! (10 ∷ 11 ∷ []) $ free1 ! $ move ! (8 ∷ 9 ∷ []) $ free1 ! $ move ! (6 ∷ 7 ∷ []) $ free1 ! $ free0 ! $

@@ -7,7 +7,7 @@ use borrow.Author.Needs.{needs}
 use lib.ListN.{length}
 use lib.Seq.{sets, length-sets}
 use Rattle.rules.specs.Lists.{tabulate}
-use Rattle.ring.specs.Turn.{eventAt, eventsFrom}
+use Rattle.ring.specs.Turn.{storedEvent, eventsFrom}
 use Rattle.rules.proofs.Lists.{length-tabulate}
 use Rattle.ring.proofs.Loops.{sets-more}
 use Rattle.ring.proofs.drain.lay_events.Statement.{statement}
@@ -38,7 +38,7 @@ loop-again : tie.Need-loop-again Inv-loop μ-loop
 loop-again c =
     let start = c .before .before .before .before .before .before .args in
     let l = c .before .before .before .before .loop in
-    let f = eventAt (start .numbers .now) (start .values .now) (start .from) in (
+    let f = storedEvent (start .numbers .now) (start .values .now) (start .from) in (
       omega arith,
       rw (l .inv .1, c .event-number .ensures, add-one)
           (sym (sets-more (tabulate (l .i) f) (start .buffer .now) (start .at) (f (l .i)) (l .i) (sym (length-tabulate f (l .i))))),

@@ -4,12 +4,12 @@ use Prim.Native.Nat.{_-_, _≤_}
 use native.Mathlib.Omega.{arith}
 use borrow.Author.Needs.{needs}
 use Rattle.rules.specs.Limits.{pageRoom}
-use Rattle.rules.proofs.setup.Laws.{Written, written-more, written-all}
+use Rattle.ring.proofs.setup.Laws.{WordsWritten, words-written-more, words-written-all}
 use Rattle.ring.proofs.setup.fresh_words.Statement.{statement}
 use Rattle.ring.proofs.setup.fresh_words.Tie as tie
 
 abbrev Inv-loop : tie.InvT-loop
-Inv-loop n words₀ i₀ words i = (i ≤ pageRoom) × Written n words i
+Inv-loop n words₀ i₀ words i = (i ≤ pageRoom) × WordsWritten n words i
 
 abbrev μ-loop : tie.MeasureT-loop
 μ-loop n words₀ i₀ words i = pageRoom - i
@@ -19,10 +19,10 @@ loop-holds c = (search needs, record { long = refl; same = λ k l. absurd (omega
 
 loop-again : tie.Need-loop-again Inv-loop μ-loop
 loop-again c =
-    (search needs, written-more (c .fresh-word .result) (c .before .before .loop .inv .1) (c .before .loop-test .taken) (c .fresh-word .ensures))
+    (search needs, words-written-more (c .fresh-word .result) (c .before .before .loop .inv .1) (c .before .loop-test .taken) (c .fresh-word .ensures))
 
 returns : tie.Need-returns Inv-loop μ-loop
-returns c = written-all (c .before .loop .inv .1) (c .loop-test .left)
+returns c = words-written-all (c .before .loop .inv .1) (c .loop-test .left)
 
 pub fresh-words-spec : {M : Type 1} → statement M
 fresh-words-spec =

@@ -1,4 +1,4 @@
--- `turn::turn_by` puts the pieces together as the definition does. What each piece asks is in `TurnFits`. Assumes nothing.
+-- `turn::turn_by` puts the pieces together as the definition does. What each piece asks is in `TurnPrecondition`. Assumes nothing.
 use Prim.Native.Nat.{_+_, _≤_}
 use native.Mathlib.Omega.{arith}
 use borrow.Author.Needs.{needs}

@@ -2,7 +2,7 @@
 use mathlib.Core.Path.{_≡_, refl, sym, _∙_}
 use borrow.Author.Needs.{needs}
 use lib.ListN.{length}
-use Rattle.rules.specs.Actions.{coded}
+use Rattle.rules.specs.Actions.{actionBytes}
 use Rattle.trace.specs.Encode.{actionPlace}
 use Rattle.trace.proofs.encode.Laws.{placed}
 use Rattle.trace.proofs.encode.put_action.Statement.{statement}
@@ -22,7 +22,7 @@ placed-at c = c .before .before .before .before
 store-action-requires : tie.Need-store-action-requires
 store-action-requires c κs =
     let a = start (placed-at c) .args in
-    let p = placed (length (a .out .now)) (a .at) (length (coded (a .action))) (place-is (placed-at c) ∙ c .before .before .place .given .1) in
+    let p = placed (length (a .out .now)) (a .at) (length (actionBytes (a .action))) (place-is (placed-at c) ∙ c .before .before .place .given .1) in
     rw (← p .after) (p .fits)
 
 returns : tie.Need-returns

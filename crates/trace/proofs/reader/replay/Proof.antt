@@ -166,10 +166,10 @@ module _ {M : Type 1} (𝓤 : URA M) (H : Heap 𝓤) (A : Atoms 𝓤) (W : Given
 
   module _ (C : Calls 𝓤 H) (Λ : Loops 𝓤 H) (fm : FmC 𝓤 H (W .laws) C) (known-open : Triple 𝓤 (C #open) (Open 𝓤 H A mem run)) (known-method : Triple 𝓤 (C #method) (Method 𝓤 H A mem run)) (τ : Ty) (typed : (r : Replay) (u : Val) → Is R.the-row r (u ∷ []) → Holds (hasTy τ u) × WT u) where
     walk : Is (ShrSlice (named 0) κ u8) s (slice s ∷ []) → Room u64 (length (now x)) → ent 𝓤 (onEntry 𝓤 H A replay.signature κs qs (s, (x, tt)) vals) (WpFn 𝓤 H C Λ (shape τ) (slice s ∷ slice x ∷ []) Post)
-    walk p buffer =
+    walk p room =
         qed W (raw (onEntry 𝓤 H A replay.signature κs qs (s, (x, tt)) vals) ∷ []) ∵ enter ! C Λ (shape τ) (slice s ∷ slice x ∷ []) _ $
         alloc1 ! (λ l₀. alloc1 ! (λ l₁. alloc1 ! (λ l₂. alloc1 ! (λ l₃. alloc1 ! (λ l₄. alloc1 ! (λ l₅. alloc0 ! $ params1 ! $
-        pass1 ! (init ! 8 refl (shr-slice-lawful 𝓤 H A W (named 0) κ u8 .typed s (slice s ∷ []) p .0)) $ pass1 ! (init ! 6 refl (tt, (tt, (record { fits = buffer .0 }, tt)))) $ pass0 ! $
+        pass1 ! (init ! 8 refl (shr-slice-lawful 𝓤 H A W (named 0) κ u8 .typed s (slice s ∷ []) p .0)) $ pass1 ! (init ! 6 refl (tt, (tt, (record { fits = room .0 }, tt)))) $ pass0 ! $
         -- [_5; …; _4; …; _3; …; _2; …; _1; …; room for _0; …; what is had at entry]
         move ! (12 ∷ []) $ use1 W (raw (Open 𝓤 H A mem run .pre to-open) ⊛ ‵ (Bytes κ s) ⊛ ‵ Lent ⊛ ‵ (flft κ′ q′)) goes-open $ split ! $
         calls-at ! fm (Open 𝓤 H A mem run) known-open to-open (and-then ! (load ! (from ! (stop !)) (look ! 10 refl)) (no-more !)) (λ w.
@@ -180,7 +180,7 @@ module _ {M : Type 1} (𝓤 : URA M) (H : Heap 𝓤) (A : Atoms 𝓤) (W : Given
         peeks ! (Row κ) (Is (Row κ)) (shows 𝓤 H A (Row κ)) reader (w ∷ []) (λ is.
         land ! (from ! (stop !)) (init ! 7 refl (LL.lawful (T.the-type αᵉ) (T′.the-laws αᵉ) 𝓤 H A W .typed reader _ is .0)) $
         assigns ! (addr ! (from ! (fld ! refl (hop ! (look-in ! 9 (sub ! 0 refl (whole !))) (stop !))))) (from ! (stop !)) (init ! 5 refl (tt, tt)) $
-        assigns ! (agg ! (and-then ! (load ! (from ! (stop !)) (look ! 5 refl)) (and-then ! (load ! (from ! (fld ! refl (stop !))) (look-in ! 9 (sub ! 1 refl (whole !)))) (no-more !)))) (from ! (stop !)) (init ! 3 refl (tt, (tt, (record { fits = buffer .0 }, tt)))) $
+        assigns ! (agg ! (and-then ! (load ! (from ! (stop !)) (look ! 5 refl)) (and-then ! (load ! (from ! (fld ! refl (stop !))) (look-in ! 9 (sub ! 1 refl (whole !)))) (no-more !)))) (from ! (stop !)) (init ! 3 refl (tt, (tt, (record { fits = room .0 }, tt)))) $
         use3 W (raw (Method 𝓤 H A mem run .pre (to-method w)) ⊛ ‵ (Bytes κ s)) (goes-method w) $ split ! $
         -- [what the method asks; what the bytes own; _5; …]
         calls-at ! fm (Method 𝓤 H A mem run) known-method (to-method w) (and-then ! (load ! (from ! (stop !)) (look ! 6 refl)) (and-then ! (load ! (from ! (stop !)) (look ! 2 refl)) (no-more !))) (λ u.

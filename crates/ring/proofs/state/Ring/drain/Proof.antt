@@ -48,9 +48,9 @@ use denote.Triple.Spec.{Meets, tripleOf}
 use denote.Triple.Table.{entered, cited}
 use denote.Triple.Walked.{says, Stays, stay-dropped, walkOf, goes-dropped, goes-spent-slice, Walks, ends-at, walked, walk-meets}
 use denote.Exit.{yes, no}
-use Rattle.rules.specs.Drain.{DrainOutcome, drainRule}
+use Rattle.rules.specs.Drain.{DrainOutcome, drainRule, bufferAfter}
 use Rattle.ring.specs.Ring.{stateOf}
-use Rattle.ring.specs.Drain.{CountMatches, bufferAfter}
+use Rattle.ring.specs.Drain.{CountMatches}
 use Rattle.ring.specs.declared.state.Ring.{Ring}
 use Rattle.ring.specs.declared.state.DrainCount.{DrainCount}
 use Rattle.ring.specs.declared.drain_part.DrainPart.{DrainPart}
@@ -213,13 +213,13 @@ module _ {M : Type 1} (𝓤 : URA M) (H : Heap 𝓤) (A : Atoms 𝓤) (W : Given
       (back-typed : (h : DrainCount) (v : Val) → Is F.the-row h (v ∷ []) → Holds (hasTy (DrainCountTy ρ σ) v) × WT v)
       (made-typed : (h : DrainPart) (v : Val) → Is (T.the-row α) h (v ∷ []) → Holds (hasTy (DrainPartTy ρ σ) v) × WT v) where
     walk : Is R.the-row r (ring r ∷ []) → Room u64 (length ys) → ent 𝓤 (onEntry 𝓤 H A drain.signature (κ, tt) (q, tt) (r, (x γ ys, tt)) vals) (WpFn 𝓤 H C Λ (shape ρ σ) (ring r ∷ s ∷ []) Post)
-    walk is-ring buffer =
+    walk is-ring room =
         qed W ((‵ (flft κ q) ⊛ ‵ ftrue) ∷ ‵ (owns (R.the-row ∷ MutSlice (named 0) κ u64 ∷ []) (r, (x γ ys, tt)) vals) ∷ []) ∵ enter ! C Λ (shape ρ σ) (ring r ∷ s ∷ []) _ $
         alloc1 ! (λ l₀. alloc1 ! (λ l₁. alloc1 ! (λ l₂. alloc1 ! (λ l₃. alloc1 ! (λ l₄. alloc1 ! (λ l₅. alloc1 ! (λ l₆. alloc1 ! (λ l₇. alloc1 ! (λ l₈. alloc1 ! (λ l₉. alloc1 ! (λ l₁₀. alloc0 ! $ params1 ! $
-        pass1 ! (init ! 18 refl (ring-typed r (ring r) is-ring)) $ pass1 ! (init ! 16 refl (tt, (tt, (record { fits = buffer .0 }, tt)))) $ pass0 ! $
+        pass1 ! (init ! 18 refl (ring-typed r (ring r) is-ring)) $ pass1 ! (init ! 16 refl (tt, (tt, (record { fits = room .0 }, tt)))) $ pass0 ! $
         -- [_10; …; _9; …; _8; …; _7; …; _6; …; _5; …; _4; …; _3; …; _2; …; _1; …; room for _0; …; the token; what the ring and the buffer own]
         assigns ! (addr ! (from ! (fld ! refl (hop ! (look-in ! 16 (sub ! 0 refl (whole !))) (stop !))))) (from ! (stop !)) (init ! 10 refl (tt, tt)) $
-        assigns ! (agg ! (and-then ! (load ! (from ! (stop !)) (look ! 10 refl)) (and-then ! (load ! (from ! (fld ! refl (stop !))) (look-in ! 16 (sub ! 1 refl (whole !)))) (no-more !)))) (from ! (stop !)) (init ! 8 refl (tt, (tt, (record { fits = buffer .0 }, tt)))) $
+        assigns ! (agg ! (and-then ! (load ! (from ! (stop !)) (look ! 10 refl)) (and-then ! (load ! (from ! (fld ! refl (stop !))) (look-in ! 16 (sub ! 1 refl (whole !)))) (no-more !)))) (from ! (stop !)) (init ! 8 refl (tt, (tt, (record { fits = room .0 }, tt)))) $
         -- the buffer is lent again, for a lifetime ν of the call
         move ! (23 ∷ []) $ fsplit ! $ move ! (1 ∷ []) $ fsplit ! $ move ! (25 ∷ []) $ split ! $ lft-new ! tt (λ ν. move ! (3 ∷ 1 ∷ []) $
         use2 W (later (some (λ (δ : GName). ‵ (MutSlice (named 0) (ν ∷ []) u64 .own (x δ ys) (s ∷ [])) ⊛ ‵ (LentAgain u64 κ (ν ∷ []) q γ b o δ ys)))) (lends-again u64 κ (ν ∷ []) q γ b o 𝓤 H A W (named 0) (named 0) ys) $ await ! tt $ pick ! (λ δ. split ! $
@@ -234,10 +234,10 @@ module _ {M : Type 1} (𝓤 : URA M) (H : Heap 𝓤) (A : Atoms 𝓤) (W : Given
         use1 W (given (w ∷ [] ≡ back ∷ []) (‵ Own)) (own-open 𝓤 H A W F.the-type F′.the-laws (ringOf (found .state), (found .last, (n, tt))) w) $ learn ! (λ we. rewrite ! 20 (λ (u : Val). ‵ (fat fullShare (DrainCountTy ρ σ) l₃ 0 u)) (ap only we) refl $
         -- the lifetime is ended, and the buffer comes back at that list
         move ! (1 ∷ []) $ split ! $ lft-end ! tt $ move ! (0 ∷ 4 ∷ 3 ∷ []) $
-        use3 W (later (‵ (MutSlice (named 0) κ u64 .own (x γ left) (s ∷ [])) ⊛ ‵ (flft κ q))) (comes-back u64 κ (ν ∷ []) q γ b o 𝓤 H A W (named 0) (named 0) ys δ left buffer (e .1)) $ await ! tt $ split ! $
+        use3 W (later (‵ (MutSlice (named 0) κ u64 .own (x γ left) (s ∷ [])) ⊛ ‵ (flft κ q))) (comes-back u64 κ (ν ∷ []) q γ b o 𝓤 H A W (named 0) (named 0) ys δ left room (e .1)) $ await ! tt $ split ! $
         -- `prefix`. [what the buffer owns; the token; …; what the fields of `drain_into`'s result own; …; …; _10; …]
         assigns ! (addr ! (from ! (fld ! refl (hop ! (look-in ! 22 (sub ! 0 refl (whole !))) (stop !))))) (from ! (stop !)) (init ! 12 refl (tt, tt)) $
-        assigns ! (agg ! (and-then ! (load ! (from ! (stop !)) (look ! 12 refl)) (and-then ! (load ! (from ! (fld ! refl (stop !))) (look-in ! 22 (sub ! 1 refl (whole !)))) (no-more !)))) (from ! (stop !)) (init ! 10 refl (tt, (tt, (record { fits = buffer .0 }, tt)))) $
+        assigns ! (agg ! (and-then ! (load ! (from ! (stop !)) (look ! 12 refl)) (and-then ! (load ! (from ! (fld ! refl (stop !))) (look-in ! 22 (sub ! 1 refl (whole !)))) (no-more !)))) (from ! (stop !)) (init ! 10 refl (tt, (tt, (record { fits = room .0 }, tt)))) $
         move ! (1 ∷ 0 ∷ []) $ use2 W (raw (Prefix 𝓤 H A mem run .pre to-prefix)) (goes-prefix (LL.owed F.the-type F′.the-laws made-count _ is .1 .1 .0 .1)) $
         calls-at ! fm (Prefix 𝓤 H A mem run) known-prefix to-prefix (and-then ! (load ! (from ! (stop !)) (look ! 9 refl)) (and-then ! (load ! (from ! (fld ! refl (stop !))) (look-in ! 19 (sub ! 2 refl (whole !)))) (no-more !))) (λ u.
         use1 W (later (some (λ (p : RefT (List ℕ)). ((‵ (flft κ q) ⊛ ‵ ftrue) ⊛ ‵ (MutSlice (named 0) κ u64 .own p (u ∷ []))) ⊛ raw (ensured 𝓤 H A prefix.ended (prefix.clauses 𝓤 H A mem run) (κ, tt) (x γ left, (n, tt)) tt p)))) (id⊢ 𝓤 _) $ await ! tt $ pick ! (λ p.

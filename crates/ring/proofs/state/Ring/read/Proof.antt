@@ -20,7 +20,7 @@ use Rattle.ring.specs.declared.pieces.Stores.{Stores}
 use Rattle.ring.specs.declared.pieces.Stores.the-variants.{Same}
 use Rattle.rules.proofs.shape.Laws.{InShape, in-shape}
 use Rattle.ring.proofs.shape.Laws.{tested-inShape}
-use Rattle.ring.proofs.read.Laws.{allows, plan-fits, event-fits}
+use Rattle.ring.proofs.read.Laws.{allows, plan-precondition, event-precondition}
 use Rattle.ring.proofs.pieces.Laws.{readLeaves, read-leaves, read-stores-precondition, read-stores-same}
 use Rattle.ring.proofs.state.Ring.read.Statement.{statement}
 use Rattle.ring.proofs.state.Ring.read.Tie as tie
@@ -77,20 +77,20 @@ planned : (c : tie.After-plan-reader) → c .plan-reader .result ≡ planRead (g
 planned c = c .plan-reader .ensures
 
 -- it names only what the ring has room for
-planned-fits : (c : tie.After-plan-reader) → FetchPrecondition (c .plan-reader .result)
-planned-fits c = rw (planned c) (plan-fits (given (allowed-at c)) (shaped (allowed-at c)))
+planned-precondition : (c : tie.After-plan-reader) → FetchPrecondition (c .plan-reader .result)
+planned-precondition c = rw (planned c) (plan-precondition (given (allowed-at c)) (shaped (allowed-at c)))
 
 -- ---- the pieces
 
 read-answer-requires : tie.Need-read-answer-requires
 read-answer-requires c κs e =
     let d = c .before .before .before in
-    event-fits (given (allowed-at d)) (shaped (allowed-at d)) (sym (planned d) ∙ e)
+    event-precondition (given (allowed-at d)) (shaped (allowed-at d)) (sym (planned d) ∙ e)
 
 read-stores-requires : tie.Need-read-stores-requires
 read-stores-requires c κs =
     let d = c .before .before .before .before .before .before in
-    (planned-fits d, omega (arith, shaped (allowed-at d)))
+    (planned-precondition d, omega (arith, shaped (allowed-at d)))
 
 -- where the answer is made, and where it is known what is done
 abbrev answered-at : tie.After-read-stores → tie.After-read-answer
@@ -136,7 +136,7 @@ stores-within c =
     let d = planned-at (stores-at c) in
     let r = given (allowed-at d) in
     rw (stores-at c .read-stores .ensures)
-    (read-stores-precondition (r .places .reader) (r .words) (d .plan-reader .result) (planned-fits d) (omega (arith, shaped (allowed-at d))))
+    (read-stores-precondition (r .places .reader) (r .words) (d .plan-reader .result) (planned-precondition d) (omega (arith, shaped (allowed-at d))))
 
 -- ---- the arms
 

@@ -44,7 +44,7 @@ run-requires c κs = (
   record {
     size = sizeOf (start (c .before) .args .pages) (start (c .before) .args .slots) (start (c .before) .args .mode);
     fits = fits (c .before .before .before);
-    past = [];
+    actions = [];
     reached = fresh-ring (c .before);
   },
   omega arith,

@@ -7,7 +7,7 @@ use borrow.Author.Needs.{needs}
 use lib.ListN.{length}
 use Rattle.rules.specs.Limits.{mostDepth}
 use Rattle.rules.specs.Actions.{codedAt}
-use Rattle.rules.specs.Replay.{answerNumbers}
+use Rattle.rules.specs.Replay.{numbersPerAnswer}
 use Rattle.rules.specs.State.{State}
 use Rattle.ring.specs.Ring.{stateOf}
 use Rattle.ring.specs.Replay.{laidAt}
@@ -72,10 +72,10 @@ same-buffer l = buffer-length (l .loop .inv) (start l .pre .1)
 buffer-small : (l : Loop) → length (start l .args .buffer .now) < 2 ^ 64
 buffer-small l = search needs
 
-buffer-here : (c : Turns) → answerNumbers * loop-top c .loop .made + 3 ≤ length (loop-top c .loop .buffer)
+buffer-here : (c : Turns) → numbersPerAnswer * loop-top c .loop .made + 3 ≤ length (loop-top c .loop .buffer)
 buffer-here c = omega (arith, moves-here c, same-buffer (loop-top c), start (loop-top c) .pre .1, loop-top c .loop .inv .fewer)
 
-made-small : (c : Turns) → answerNumbers * loop-top c .loop .made + 3 < 2 ^ 64
+made-small : (c : Turns) → numbersPerAnswer * loop-top c .loop .made + 3 < 2 ^ 64
 made-small c = omega (arith, buffer-here c, same-buffer (loop-top c), buffer-small (loop-top c))
 
 element-copy-out-w : tie.Need-element-copy-out-w Inv-loop μ-loop
@@ -137,7 +137,7 @@ loop-again c =
       n .before .before .before .before .store-words .ensures,
     )
     (ap (λ (k : Change). changed k (ring t)) change))
-    (laid-at p .lay-answer .ensures ∙ ap (λ (k : Change). laidAt (l .loop .buffer) (answerNumbers * l .loop .made) (k .answer)) change)
+    (laid-at p .lay-answer .ensures ∙ ap (λ (k : Change). laidAt (l .loop .buffer) (numbersPerAnswer * l .loop .made) (k .answer)) change)
 
 -- ---- after the loop
 

@@ -19,7 +19,7 @@ use Rattle.ring.specs.Pieces.{StoresPrecondition, MovePrecondition}
 use Rattle.ring.specs.declared.pieces.Stores.{Stores}
 use Rattle.rules.proofs.shape.Laws.{InShape, in-shape}
 use Rattle.ring.proofs.shape.Laws.{tested-inShape}
-use Rattle.ring.proofs.write.Laws.{Allows, allows, top-fits, plan-fits}
+use Rattle.ring.proofs.write.Laws.{Allows, allows, top-fits, plan-precondition}
 use Rattle.ring.proofs.pieces.Laws.{leaves, write-leaves, stores-precondition}
 use Rattle.ring.proofs.state.Ring.write.Statement.{statement}
 use Rattle.ring.proofs.state.Ring.write.Tie as tie
@@ -83,8 +83,8 @@ planned : (c : tie.After-plan-phase) → c .plan-phase .result ≡ planWrite (gi
 planned c = c .plan-phase .ensures
 
 -- it names only what the ring has room for
-planned-fits : (c : tie.After-plan-phase) → MovePrecondition (c .plan-phase .result)
-planned-fits c = rw (planned c) (plan-fits (given (allowed-at c)) (shaped (allowed-at c)) (allowed (allowed-at c) .somebody))
+planned-precondition : (c : tie.After-plan-phase) → MovePrecondition (c .plan-phase .result)
+planned-precondition c = rw (planned c) (plan-precondition (given (allowed-at c)) (shaped (allowed-at c)) (allowed (allowed-at c) .somebody))
 
 -- ---- the pieces
 
@@ -92,7 +92,7 @@ answer-after-requires : tie.Need-answer-after-requires
 answer-after-requires c κs = omega (arith, shaped (allowed-at c))
 
 stores-after-requires : tie.Need-stores-after-requires
-stores-after-requires c κs = (planned-fits (c .before .before .before), omega (arith, shaped (allowed-at (c .before .before .before))))
+stores-after-requires c κs = (planned-precondition (c .before .before .before), omega (arith, shaped (allowed-at (c .before .before .before))))
 
 -- where the answer is made, and where the move is known
 abbrev answered-at : tie.After-record-after → tie.After-answer-after
@@ -110,7 +110,7 @@ counts-after-requires : tie.Need-counts-after-requires
 counts-after-requires c κs =
     let d = planned-at (c .before .before) in
     let s = shaped (allowed-at d) in
-    (planned-fits d, s .taken, s .overwritten, s .dropped)
+    (planned-precondition d, s .taken, s .overwritten, s .dropped)
 
 places-after-requires : tie.Need-places-after-requires
 places-after-requires c κs = omega (arith, shaped (allowed-at (planned-at (c .before .before .before .before .before))))
@@ -157,7 +157,7 @@ stores-within c =
     let d = planned-at (recorded-at c) in
     let r = given (allowed-at d) in
     rw (stores-at c .stores-after .ensures)
-    (stores-precondition (r .size) (r .counts .taken) (top r .value) (r .words) (shaped (allowed-at d) .slots-most) (d .plan-phase .result) (planned-fits d))
+    (stores-precondition (r .size) (r .counts .taken) (top r .value) (r .words) (shaped (allowed-at d) .slots-most) (d .plan-phase .result) (planned-precondition d))
 
 -- ---- the arms
 

@@ -132,15 +132,15 @@ module _ {M : Type 1} (𝓤 : URA M) (H : Heap 𝓤) (A : Atoms 𝓤) (W : Given
 
   module _ (C : Calls 𝓤 H) (Λ : Loops 𝓤 H) (fm : FmC 𝓤 H (W .laws) C) (known : Triple 𝓤 (C #replay-from) (From 𝓤 H A mem run)) (τ : Ty) (typed : (r : Replay) (u : Val) → Is R.the-row r (u ∷ []) → Holds (hasTy τ u) × WT u) where
     walk : Holds (hasTy (T′.mir (named 0)) mach) × WT mach → Room u64 (length (now x)) → ent 𝓤 (onEntry 𝓤 H A replay.signature κs qs (d, (x, tt)) vals) (WpFn 𝓤 H C Λ (shape τ) (mach ∷ slice x ∷ []) Post)
-    walk wt buffer =
+    walk wt room =
         qed W (raw (onEntry 𝓤 H A replay.signature κs qs (d, (x, tt)) vals) ∷ []) ∵ enter ! C Λ (shape τ) (mach ∷ slice x ∷ []) _ $
         alloc1 ! (λ l₀. alloc1 ! (λ l₁. alloc1 ! (λ l₂. alloc1 ! (λ l₃. alloc1 ! (λ l₄. alloc1 ! (λ l₅. alloc1 ! (λ l₆. alloc0 ! $ params1 ! $
-        pass1 ! (init ! 10 refl wt) $ pass1 ! (init ! 8 refl (tt, (tt, (record { fits = buffer .0 }, tt)))) $ pass0 ! $
+        pass1 ! (init ! 10 refl wt) $ pass1 ! (init ! 8 refl (tt, (tt, (record { fits = room .0 }, tt)))) $ pass0 ! $
         -- [_6; …; _5; …; _4; …; _3; …; _2; …; _1; …; room for _0; …; what is had at entry]
         assigns ! (of-opd ! (load ! (from ! (fld ! refl (stop !))) (look-in ! 10 (sub ! 0 refl (whole !))))) (from ! (stop !)) (init ! 6 refl (tt, wt .1 .0)) $
         assigns ! (of-opd ! (load ! (from ! (fld ! refl (stop !))) (look-in ! 10 (sub ! 1 refl (whole !))))) (from ! (stop !)) (init ! 4 refl (tt, wt .1 .1 .0)) $
         assigns ! (addr ! (from ! (fld ! refl (hop ! (look-in ! 8 (sub ! 0 refl (whole !))) (stop !))))) (from ! (stop !)) (init ! 2 refl (tt, tt)) $
-        assigns ! (agg ! (and-then ! (load ! (from ! (stop !)) (look ! 2 refl)) (and-then ! (load ! (from ! (fld ! refl (stop !))) (look-in ! 8 (sub ! 1 refl (whole !)))) (no-more !)))) (from ! (stop !)) (init ! 0 refl (tt, (tt, (record { fits = buffer .0 }, tt)))) $
+        assigns ! (agg ! (and-then ! (load ! (from ! (stop !)) (look ! 2 refl)) (and-then ! (load ! (from ! (fld ! refl (stop !))) (look-in ! 8 (sub ! 1 refl (whole !)))) (no-more !)))) (from ! (stop !)) (init ! 0 refl (tt, (tt, (record { fits = room .0 }, tt)))) $
         move ! (14 ∷ []) $ use1 W (raw (From 𝓤 H A mem run .pre to) ⊛ ‵ (Own κ d)) (goes (wt .1 .1 .0 .fits)) $ split ! $
         -- [what the callee asks; what the reader owns; _6; …]
         calls-at ! fm (From 𝓤 H A mem run) known to (and-then ! (load ! (from ! (stop !)) (look ! 8 refl)) (and-then ! (load ! (from ! (stop !)) (look ! 6 refl)) (and-then ! (load ! (from ! (stop !)) (look ! 2 refl)) (no-more !)))) (λ u.
