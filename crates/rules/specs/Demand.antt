@@ -10,15 +10,16 @@ use lib.Dec.{eqb}
 use lib.ListN.{length, getD}
 use Rattle.rules.specs.Limits.{mostDepth, mostCount, headerFlag, updateFlag}
 use Rattle.rules.specs.Lists.{first}
-use Rattle.rules.specs.State.{wordAt, usedAt, numberAt, valueAt, State}
+use Rattle.rules.specs.State.{wordAt, usedAt, numberAt, valueAt, top, State}
 use Rattle.rules.specs.Words.{pageIn, flagIn}
 use Rattle.rules.specs.Shape.{inShape}
 use Rattle.rules.specs.SetUp.{freshRule}
 use Rattle.rules.specs.Receipt.{receiptRule}
 use Rattle.rules.specs.Act.{act}
 use Rattle.rules.specs.Remember.{Numbered, ReadEvent, Overwriting, By, numbered, unbegun, readEvent}
-use Rattle.rules.specs.History.{Run, runOf}
+use Rattle.rules.specs.History.{Run, latest, runOf}
 use Rattle.rules.specs.declared.state.PageNo.{PageNo}
+use Rattle.rules.specs.declared.state.WriterPhase.the-variants.{Clear}
 use Rattle.rules.specs.declared.state.Action.{Action}
 use Rattle.rules.specs.declared.state.Action.the-variants.{Begin, Write, Read}
 use Rattle.rules.specs.declared.state.Answer.the-variants.{Accepted}
@@ -215,6 +216,8 @@ pub record Claim (c : Receipt) (r : Run) : Type 0 where
   pub visits : (p : PageNo) → RingPage (r .now) p → Visits (r .now) p
   -- 7. exactly one header mark, or none and an update mark whose writer is still at work
   pub marks : OneHeader (r .now) ⊎ NoHeader r
+  -- .. and "Only the writer that made the mark clears it": whoever is about to is the writer of the mark
+  pub clears : (t n : PageNo) → 0 < r .now .depth → top (r .now) .phase ≡ Clear t n → r .past .marker t ≡ By (latest (r .past .working) .nth)
 
 abbrev pub Demand : Run → Type 0
 Demand r = Claim (receiptRule (r .now)) r

@@ -14,7 +14,7 @@ use Rattle.rules.proofs.invariant.Fates.{FatesOf}
 use Rattle.rules.proofs.accounts.Readings.{own-at, numbered-below, numbered-once}
 use Rattle.rules.proofs.demand.Counts.{given-numbered, handed-count, overwritten-count, open-count, waiting-count, sum}
 use Rattle.rules.proofs.demand.Events.{given-value, given-rising, handed-once}
-use Rattle.rules.proofs.demand.Marks.{visits, marks}
+use Rattle.rules.proofs.demand.Marks.{visits, marks, clears}
 use Rattle.rules.proofs.demand.Places.{open-from, settled-committed, one-place}
 
 pub demand : {s : State} {h : History} {L : ℕ → ℕ} {pc pt a r0 gap : ℕ} → Control s L pc pt → Accounts s h L pc pt a r0 gap → FatesOf s h
@@ -40,4 +40,5 @@ demand v b f =
       oldestTaken = b .recorded .rightly;
       visits = visits v;
       marks = marks v b;
+      clears = clears v b;
     }

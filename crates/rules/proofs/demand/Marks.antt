@@ -6,11 +6,13 @@ use mathlib.Core.List.{List, [], _∷_}
 use Prim.Native.Nat.{ℕ, zero, suc, _-_, _≤_, _<_}
 use native.Mathlib.Omega.{arith}
 use lib.ListN.{length, getD}
-use Rattle.rules.specs.History.{runAt}
-use Rattle.rules.specs.State.{page, State}
+use Rattle.rules.specs.History.{latest, runAt}
+use Rattle.rules.specs.State.{page, top, State}
 use Rattle.rules.specs.Remember.{By, History, unbegun}
 use Rattle.rules.specs.Demand.{Some, RingPage, movesFrom, Visits, OneHeader, NoHeader}
 use Rattle.rules.specs.declared.state.PageNo.{PageNo}
+use Rattle.rules.specs.declared.state.WriterPhase.{WriterPhase}
+use Rattle.rules.specs.declared.state.WriterPhase.the-variants.{Clear}
 use Rattle.rules.proofs.invariant.Order.{N, S, R, T, nextOf, phaseAt, place}
 use Rattle.rules.proofs.invariant.Control.{RecordOk, Owns, Headed, Headless, Flags, headed, headless, Control}
 use Rattle.rules.proofs.invariant.Accounts.{Accounts}
@@ -93,3 +95,10 @@ module _ {s : State} {L : ℕ → ℕ} {pc pt : ℕ} (v : Control s L pc pt) whe
 
     pub marks : OneHeader s ⊎ NoHeader (runAt s h)
     marks = marks-of (v .flags)
+
+    -- the top record is the latest writer's, and it owns the mark that it is about to clear
+    pub clears : (t n : PageNo) → 0 < s .depth → top s .phase ≡ Clear t n → h .marker t ≡ By (latest (h .working) .nth)
+    clears t n deep q =
+        let own : Owns (top s .phase) (t .0) = subst (λ (f : WriterPhase). Owns f (t .0)) (sym q) refl in
+        b .work .marks (s .depth - 1) (t .0) (omega arith) own
+        ∙ ap (λ (k : ℕ). By (getD (h .working) (k - 1) unbegun .nth)) (sym (b .work .many))
