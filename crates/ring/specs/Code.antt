@@ -1,5 +1,5 @@
 -- Demand 3 of the code: what holds of the answers that a caller is given, and of the receipt. No rule is named in it except through the claim
--- (the rules' specs/Demand): a run is calls of steps that the functions may return, and its history is told by these steps' own answers.
+-- (the rules' specs/Demand): a run is made of steps that the functions may return, and its history is told by these steps' own answers.
 -- The three promises are parameters here: proofs/demand/Code puts in what the checker proves of `Ring::fresh`, `Ring::act` and `Ring::receipt`.
 -- Assumes nothing.
 use mathlib.Core.Path.{_≡_}

@@ -1,5 +1,5 @@
 -- What an action leaves in each piece of the ring, by what was decided: for code that stores a piece at a time. A piece is what the rule of
--- specs/Write or specs/Read leaves of it on a ring that has the pieces given and is blank elsewhere. The cells of the arrays alone are listed again,
+-- a Write or a Read leaves of it on a ring that has the pieces given and is blank elsewhere. The cells of the arrays alone are listed again,
 -- since a store names a place (`storesAfter`, `readStores`). That all of these together are the rule on the whole ring is `moved-pieces` and
 -- `fetched-pieces` (proofs/pieces/Laws).
 -- Assumes nothing.

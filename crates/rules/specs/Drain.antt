@@ -149,8 +149,8 @@ pub data Brought : Last → Type 0 where
 abbrev pub enough : ℕ
 enough = 6
 
--- one drain of one element, with at most six Reads in a row, ends with one of the three; so does every drain into a buffer that has an element; and any limit of six
--- or more gives what eight give
+-- one drain of one element, with at most six Reads in a row, ends with one of the three; so does every drain into a buffer that has an element; and
+-- any limit of six or more gives what eight give
 pub record Brings (r : State) : Type 0 where
   pub within : Brought (drainReads enough 1 r None .last)
   pub ends : (space : ℕ) → Brought (drainRule r (suc space) .last)

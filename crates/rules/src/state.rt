@@ -1,4 +1,4 @@
-// The ring and its parts: types and constants, with no function, so that each is read in one place.
+// The parts of a ring, and what is asked and answered: types with no function, so that each is read in one place.
 
 // The number of a page, 0 to N. A type of its own, so that it is never taken for a reading's number.
 pub struct PageNo(pub u32);

@@ -17,7 +17,7 @@ use Rattle.rules.specs.declared.state.ReaderPhase.the-variants as readin
 use Rattle.rules.proofs.Lists.{by-eq, by-lt}
 use Rattle.rules.proofs.invariant.Order.{S, R, usedOf}
 use Rattle.rules.proofs.invariant.Control.{Control}
-use Rattle.rules.proofs.invariant.Accounts.{valueOf, Quiet, lostOf, Past, Accounts}
+use Rattle.rules.proofs.invariant.Accounts.{nthValue, Quiet, lostOf, Past, Accounts}
 use Rattle.rules.proofs.accounts.Laws.{stored-own, page-le}
 
 module _ {s : State} {h : History} {L : ℕ → ℕ} {pc pt a r0 gap : ℕ} (v : Control s L pc pt) (b : Accounts s h L pc pt a r0 gap) (idle : s .reader .phase ≡ reading.Idle)
@@ -91,10 +91,10 @@ module _ {s : State} {h : History} {L : ℕ → ℕ} {pc pt a r0 gap : ℕ} (v :
             omega (arith, number-of y, number-of (old-event i il), k .given i il));
         own = λ i hi.
             event-cases i hi
-            (λ lt y. value-of y ∙ k .own i lt ∙ ap (valueOf (h .readings)) (sym (number-of y)))
+            (λ lt y. value-of y ∙ k .own i lt ∙ ap (nthValue (h .readings)) (sym (number-of y)))
             (λ q y.
             value-of y ∙ stored-own (b .values) (R s) position (v .links .cycle .reader) inPage m-committed
-            ∙ ap (valueOf (h .readings)) (sym (number-of y)));
+            ∙ ap (nthValue (h .readings)) (sym (number-of y)));
         lostLow = k .lostLow;
         lostApart = λ i hi. ⊎-elim (λ y. inl (omega arith)) (λ y. inr y) (k .lostApart i hi);
         lostRising = k .lostRising;

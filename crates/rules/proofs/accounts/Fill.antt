@@ -14,7 +14,7 @@ use Rattle.rules.specs.declared.state.Writer.{Writer}
 use Rattle.rules.proofs.Lists.{by-eq}
 use Rattle.rules.proofs.invariant.Order.{N, S, R, topAt, usedOf, cell, phaseAt, rephase, Held, place}
 use Rattle.rules.proofs.invariant.Control.{Control}
-use Rattle.rules.proofs.invariant.Accounts.{valueOf, Holding, HeldOk, early, Accounts}
+use Rattle.rules.proofs.invariant.Accounts.{nthValue, Holding, HeldOk, early, Accounts}
 use Rattle.rules.proofs.accounts.Laws.{work-top, cell-room}
 use Rattle.rules.proofs.accounts.Phase.{held-top, unheld, balance-top, earlies-set}
 use Rattle.rules.proofs.control.Phase.{placed-le}
@@ -53,18 +53,18 @@ module _ {s : State} {h : History} {L : ℕ → ℕ} {pc pt a r0 gap : ℕ} (v :
   j<S = omega (arith, b .contents .cap p p≤N, holding .slot)
 
   -- in the slot itself
-  stored-here : getD values' (cell (S s) p j) 0 ≡ valueOf (h .readings) (getD (s .numbers) (cell (S s) p j) 0)
+  stored-here : getD values' (cell (S s) p j) 0 ≡ nthValue (h .readings) (getD (s .numbers) (cell (S s) p j) 0)
   stored-here =
       let room = cell-room (S s) p j (omega (arith, p≤N, b .contents .sizes .pages)) (b .contents .sizes .slots) (omega (arith, j<S, b .contents .sizes .slots)) in
       getD-set-same (s .values) (cell (S s) p j) value 0 (omega (arith, b .contents .rooms .values-room)) ∙ holding .own
 
   -- in any slot that no record holds now
   stored : (q i : ℕ) → q ≤ N s → i < usedOf s q → ((k : ℕ) → k < s .depth → phaseAt (set (s .stack) (topAt s) filled) k ≡ Held q i → ⊥)
-      → getD values' (cell (S s) q i) 0 ≡ valueOf (h .readings) (getD (s .numbers) (cell (S s) q i) 0)
+      → getD values' (cell (S s) q i) 0 ≡ nthValue (h .readings) (getD (s .numbers) (cell (S s) q i) 0)
   stored q i hq hi free =
       by-eq (cell (S s) q i) (cell (S s) p j)
       (λ same.
-      ap (λ (k : ℕ). getD values' k 0) same ∙ stored-here ∙ ap (λ (k : ℕ). valueOf (h .readings) (getD (s .numbers) k 0)) (sym same))
+      ap (λ (k : ℕ). getD values' k 0) same ∙ stored-here ∙ ap (λ (k : ℕ). nthValue (h .readings) (getD (s .numbers) k 0)) (sym same))
       (λ other.
       getD-set-other (s .values) (cell (S s) p j) (cell (S s) q i) value 0 other
       ∙ b .values .stored q i hq hi (unheld b deep (v .depth) filled q i (λ y. other (moved (sym phase-is ∙ y))) free))

@@ -22,7 +22,7 @@ use Rattle.rules.proofs.Lists.{by-eq}
 use Rattle.rules.proofs.state.Laws.{slotIndex-room, slotIndex-once}
 use Rattle.rules.proofs.invariant.Order.{R, C, usedOf, cell, phaseAt, storedAt, Held, place}
 use Rattle.rules.proofs.invariant.Control.{Owns, ReaderOk, Control}
-use Rattle.rules.proofs.invariant.Accounts.{Sums, valueOf, Holding, HeldOk, Values, Quiet, early, earlies, AtWork, Accounts}
+use Rattle.rules.proofs.invariant.Accounts.{Sums, nthValue, Holding, HeldOk, Values, Quiet, early, earlies, AtWork, Accounts}
 use Rattle.rules.proofs.control.Phase.{commit-le}
 use Rattle.rules.proofs.order.Records.{phase-same, phase-other}
 
@@ -81,7 +81,7 @@ held-late numbers used S P pc pt c readings v ph p j q o = subst (HeldOk numbers
 pub stored-own : {numbers values used : List ℕ} {N S : ℕ} {stack : List Writer} {depth : ℕ} {P : ℕ → ℕ} {pc pt c : ℕ} {readings : List Numbered}
     → Values numbers values used N S stack depth P pc pt c readings
     → (p j : ℕ) → p ≤ N → j < getD used p 0 → getD numbers (cell S p j) 0 < c
-    → getD values (cell S p j) 0 ≡ valueOf readings (getD numbers (cell S p j) 0)
+    → getD values (cell S p j) 0 ≡ nthValue readings (getD numbers (cell S p j) 0)
 stored-own {numbers} {values} {used} {N} {S} {stack} {depth} {P} {pc} {pt} {c} {readings} k p j hp hj lt =
     k .stored p j hp hj
     (λ i hi z.

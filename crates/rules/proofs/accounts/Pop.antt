@@ -16,7 +16,7 @@ use Rattle.rules.specs.declared.state.Writer.{Writer}
 use Rattle.rules.proofs.Lists.{by-eq}
 use Rattle.rules.proofs.invariant.Order.{N, S, R, T, topAt, usedOf, phaseAt, Held, place}
 use Rattle.rules.proofs.invariant.Control.{Owns, Control}
-use Rattle.rules.proofs.invariant.Accounts.{Sums, valueOf, Ordered, Values, early, earlies, lostOf, Past, AtWork, Accounts}
+use Rattle.rules.proofs.invariant.Accounts.{Sums, nthValue, Ordered, Values, early, earlies, lostOf, Past, AtWork, Accounts}
 use Rattle.rules.proofs.accounts.Laws.{value-other, earlies-above}
 use Rattle.rules.proofs.accounts.Phase.{early-not-held, balance-top}
 use Rattle.rules.proofs.accounts.Readings.{length-allCommitted, allCommitted-number, allCommitted-own, allCommitted-committed}
@@ -97,7 +97,7 @@ module _ {s : State} {h : History} {L : ℕ → ℕ} {pc pt a r0 gap : ℕ} (b :
     abbrev readings' : List Numbered
     readings' = allCommitted (h .readings)
 
-    same-value : (m : ℕ) → valueOf (h .readings) m ≡ valueOf readings' m
+    same-value : (m : ℕ) → nthValue (h .readings) m ≡ nthValue readings' m
     same-value m = ap (λ (w : BegunWriter). w .value) (sym (allCommitted-own (h .readings) m))
 
     sums' : Sums (S s) (usedOf s (R s)) (usedOf s (T s)) (usedOf s (T s)) (usedOf s (T s)) (s .places .position) (s .counts .taken) (s .counts .taken)

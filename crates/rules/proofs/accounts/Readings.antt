@@ -12,7 +12,7 @@ use lib.Seq.{getD-at}
 use Rattle.rules.specs.Remember.{Numbered}
 use Rattle.rules.specs.History.{allCommitted}
 use Rattle.rules.specs.Demand.{One, unnumbered, readingOf, ownValue, isCommitted, ReservedAt}
-use Rattle.rules.proofs.invariant.Accounts.{nthReading, valueOf, Ordered}
+use Rattle.rules.proofs.invariant.Accounts.{nthReading, nthValue, Ordered}
 
 -- ---- one reading more
 
@@ -62,7 +62,7 @@ module _ {readings : List Numbered} {taken committed : ℕ} (o : Ordered reading
   pub committed-at : (m : ℕ) → m < taken → isCommitted readings m ≡ ltb m committed
   committed-at m lt = ap (λ (x : Numbered). x .committed) (reading-at m lt) ∙ o .committed-below m lt
 
-  pub own-at : (m : ℕ) → m < taken → ownValue readings m ≡ valueOf readings m
+  pub own-at : (m : ℕ) → m < taken → ownValue readings m ≡ nthValue readings m
   own-at m lt = ap (λ (x : Numbered). x .own .value) (reading-at m lt)
 
   -- ---- the numbers that Reserved gave

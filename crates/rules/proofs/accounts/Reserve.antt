@@ -19,7 +19,7 @@ use Rattle.rules.specs.declared.state.Writer.{Writer}
 use Rattle.rules.proofs.Lists.{by-eq, by-lt}
 use Rattle.rules.proofs.invariant.Order.{N, S, R, T, C, topAt, usedOf, cell, phaseAt, storedAt, rephase, Held, place}
 use Rattle.rules.proofs.invariant.Control.{Control}
-use Rattle.rules.proofs.invariant.Accounts.{Numbers, Sums, valueOf, Ordered, Holding, HeldOk, Values, early, lostOf, Past, Accounts}
+use Rattle.rules.proofs.invariant.Accounts.{Numbers, Sums, nthValue, Ordered, Holding, HeldOk, Values, early, lostOf, Past, Accounts}
 use Rattle.rules.proofs.accounts.Laws.{value-same, value-other, held-map, work-top, quiet-map, cell-once, cell-room, read-le, committed-taken}
 use Rattle.rules.proofs.accounts.Phase.{early-not-held, unheld, balance-top, earlies-set}
 use Rattle.rules.proofs.accounts.Readings.{nthReading-before, nthReading-last}
@@ -147,7 +147,7 @@ module _ {s : State} {h : History} {L : ℕ → ℕ} {pc pt a r0 gap : ℕ} (v :
   size : length (h .readings) ≡ s .counts .taken
   size = b .recorded .ordered .size
 
-  value-kept : (m : ℕ) → m < s .counts .taken → valueOf readings' m ≡ valueOf (h .readings) m
+  value-kept : (m : ℕ) → m < s .counts .taken → nthValue readings' m ≡ nthValue (h .readings) m
   value-kept m hm = ap (λ (x : Numbered). x .own .value) (nthReading-before (h .readings) new m (omega (arith, size)))
 
   latest-value : latest (h .working) .value ≡ top s .value
@@ -155,7 +155,7 @@ module _ {s : State} {h : History} {L : ℕ → ℕ} {pc pt a r0 gap : ℕ} (v :
       let k = b .work in
       ap (λ (w : BegunWriter). w .value) (latest-at (h .working) (k .many)) ∙ k .value (topAt s) (omega arith)
 
-  value-new : valueOf readings' (s .counts .taken) ≡ top s .value
+  value-new : nthValue readings' (s .counts .taken) ≡ top s .value
   value-new = ap (λ (x : Numbered). x .own .value) (nthReading-last (h .readings) new (s .counts .taken) size) ∙ latest-value
 
   ordered-kept : Ordered readings' (s .counts .taken + 1) (s .counts .committed)
@@ -186,7 +186,7 @@ module _ {s : State} {h : History} {L : ℕ → ℕ} {pc pt a r0 gap : ℕ} (v :
         is = v .order .tailAt;
         slot = omega (arith, used-same);
         late = omega (arith, number-new, committed-taken v b);
-        own = sym (ap (valueOf readings') number-new ∙ value-new);
+        own = sym (ap (nthValue readings') number-new ∙ value-new);
       }
 
   holding-kept : (p j w : ℕ) → Holding (s .numbers) (s .used) (S s) P pc pt (s .counts .committed) (h .readings) p j w
@@ -201,7 +201,7 @@ module _ {s : State} {h : History} {L : ℕ → ℕ} {pc pt a r0 gap : ℕ} (v :
         is = o .is;
         slot = omega (arith, grows p, o .slot);
         late = omega (arith, o .late);
-        own = o .own ∙ sym (ap (valueOf readings') n ∙ value-kept _ (b .contents .numbers .below p j p≤N (o .slot)));
+        own = o .own ∙ sym (ap (nthValue readings') n ∙ value-kept _ (b .contents .numbers .below p j p≤N (o .slot)));
       }
 
   abbrev Ok : ℕ → WriterPhase → Type 0
@@ -224,7 +224,7 @@ module _ {s : State} {h : History} {L : ℕ → ℕ} {pc pt a r0 gap : ℕ} (v :
             (λ z y. absurd (free (topAt s) (omega arith) (phase-same (s .stack) (topAt s) held (top-below v deep) ∙ ap (λ (k : ℕ). Held k new-slot) (sym z) ∙ ap (Held p) (sym y))))
             (λ o.
             b .values .stored p j hp o (unheld b deep (v .depth) held p j (early-not-held p j (ap early want)) free)
-            ∙ sym (ap (valueOf readings') (number-old p j hp o) ∙ value-kept _ (b .contents .numbers .below p j hp o)));
+            ∙ sym (ap (nthValue readings') (number-old p j hp o) ∙ value-kept _ (b .contents .numbers .below p j hp o)));
       }
 
   -- ---- history

@@ -7,7 +7,7 @@ use native.Mathlib.Omega.{arith}
 use Rattle.rules.specs.Remember.{Numbered, ReadEvent}
 use Rattle.rules.specs.Demand.{One, EventAt, EventIn}
 use Rattle.rules.proofs.Lists.{by-lt}
-use Rattle.rules.proofs.invariant.Accounts.{valueOf, givenValue, Past}
+use Rattle.rules.proofs.invariant.Accounts.{nthValue, givenValue, Past}
 
 -- ---- what an Event gave
 
@@ -16,8 +16,8 @@ module _ {events : List ReadEvent} {lost : List ℕ} {readings : List Numbered} 
   pub given-low : {m k : ℕ} → EventAt events m k → m < r0 + position
   given-low {k = k} x = omega (arith, past .given k (x .below))
 
-  pub given-value : {m k : ℕ} → EventAt events m k → givenValue events k ≡ valueOf readings m
-  given-value {k = k} x = past .own k (x .below) ∙ ap (valueOf readings) (x .gave)
+  pub given-value : {m k : ℕ} → EventAt events m k → givenValue events k ≡ nthValue readings m
+  given-value {k = k} x = past .own k (x .below) ∙ ap (nthValue readings) (x .gave)
 
   pub given-rising : {m n j k : ℕ} → EventAt events m j → EventAt events n k → j < k → m < n
   given-rising {j = j} {k = k} x y lt = omega (arith, past .rising j k lt (y .below))

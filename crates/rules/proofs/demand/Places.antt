@@ -13,7 +13,7 @@ use Rattle.rules.specs.declared.state.PageNo.{PageNo}
 use Rattle.rules.proofs.Lists.{by-eq, by-lt}
 use Rattle.rules.proofs.invariant.Order.{R, usedOf}
 use Rattle.rules.proofs.invariant.Control.{Control}
-use Rattle.rules.proofs.invariant.Accounts.{valueOf, Accounts}
+use Rattle.rules.proofs.invariant.Accounts.{nthValue, Accounts}
 use Rattle.rules.proofs.accounts.Laws.{stored-own, read-le, page-le}
 use Rattle.rules.proofs.accounts.Readings.{committed-at, own-at}
 use Rattle.rules.proofs.demand.Events.{given-low}
@@ -82,7 +82,7 @@ module _ {s : State} {h : History} {L : ℕ → ℕ} {pc pt a r0 gap : ℕ} (v :
 
   own-stored : {m j : ℕ} {p : PageNo} → LiesAt s m p j → m < s .counts .committed → valueAt s p j ≡ ownValue (h .readings) m
   own-stored {m} {j} {p} l lt =
-      stored-own (b .values) (p .0) j (l .page) (l .below) (rw (l .number) lt) ∙ ap (valueOf (h .readings)) (l .number) ∙ sym (own-at (b .recorded .ordered) m (lies-below v b l))
+      stored-own (b .values) (p .0) j (l .page) (l .below) (rw (l .number) lt) ∙ ap (nthValue (h .readings)) (l .number) ∙ sym (own-at (b .recorded .ordered) m (lies-below v b l))
 
   waits : {m j : ℕ} {p : PageNo} → LiesAt s m p j → (p ≡ s .places .reader → s .places .position ≤ j) → m < s .counts .committed → Waiting (runAt s h) m
   waits {m} {j} {p} l unread lt =

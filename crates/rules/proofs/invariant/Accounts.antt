@@ -61,8 +61,8 @@ pub record Sums (S uR uT uC index position taken committed handed overwritten pc
 abbrev pub nthReading : List Numbered → ℕ → Numbered
 nthReading readings m = getD readings m unnumbered
 
-abbrev pub valueOf : List Numbered → ℕ → ℕ
-valueOf readings m = nthReading readings m .own .value
+abbrev pub nthValue : List Numbered → ℕ → ℕ
+nthValue readings m = nthReading readings m .own .value
 
 pub record Ordered (readings : List Numbered) (taken committed : ℕ) : Type 0 where
   pub size : length readings ≡ taken
@@ -79,7 +79,7 @@ pub record Holding (numbers used : List ℕ) (S : ℕ) (P : ℕ → ℕ) (pc pt 
   pub is : P k ≡ p
   pub slot : j < getD used p 0
   pub late : committed ≤ getD numbers (cell S p j) 0
-  pub own : v ≡ valueOf readings (getD numbers (cell S p j) 0)
+  pub own : v ≡ nthValue readings (getD numbers (cell S p j) 0)
 
 abbrev pub HeldOk : List ℕ → List ℕ → ℕ → (ℕ → ℕ) → ℕ → ℕ → ℕ → List Numbered → ℕ → WriterPhase → Type 0
 HeldOk numbers used S P pc pt committed readings v phase.Want = Unit {0}
@@ -94,7 +94,7 @@ HeldOk numbers used S P pc pt committed readings v phase.Filled = Unit {0}
 pub record Values (numbers values used : List ℕ) (N S : ℕ) (stack : List Writer) (depth : ℕ) (P : ℕ → ℕ) (pc pt committed : ℕ) (readings : List Numbered) : Type 0 where
   pub held : (i : ℕ) → i < depth → HeldOk numbers used S P pc pt committed readings (storedAt stack i) (phaseAt stack i)
   pub stored : (p j : ℕ) → p ≤ N → j < getD used p 0 → ((i : ℕ) → i < depth → phaseAt stack i ≡ Held p j → ⊥)
-      → getD values (cell S p j) 0 ≡ valueOf readings (getD numbers (cell S p j) 0)
+      → getD values (cell S p j) 0 ≡ nthValue readings (getD numbers (cell S p j) 0)
 
 -- the reader has handed out the whole page before it looks for another
 abbrev pub Quiet : ReaderPhase → ℕ → ℕ → Type 0
@@ -147,7 +147,7 @@ pub record Past (events : List ReadEvent) (lost : List ℕ) (readings : List Num
   pub handedIs : length events ≡ handed
   pub given : (k : ℕ) → k < length events → givenNumber events k < r0 + position
   pub rising : (j k : ℕ) → j < k → k < length events → givenNumber events j < givenNumber events k
-  pub own : (k : ℕ) → k < length events → givenValue events k ≡ valueOf readings (givenNumber events k)
+  pub own : (k : ℕ) → k < length events → givenValue events k ≡ nthValue readings (givenNumber events k)
   -- the numbers lost: how many, up to where, in which order
   pub overwrittenIs : length lost ≡ overwritten
   pub lostLow : (k : ℕ) → k < length lost → getD lost k 0 < r0 + uR + gap
