@@ -14,4 +14,5 @@ pub mod demand
 pub mod setup
 pub mod shape
 pub mod drain
+pub mod ReplayCases
 pub mod DrainCases

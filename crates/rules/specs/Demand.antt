@@ -8,20 +8,19 @@ use mathlib.Core.List.{List, [], _∷_}
 use Prim.Native.Nat.{ℕ, zero, suc, _+_, _≤_, _<_}
 use lib.Dec.{eqb}
 use lib.ListN.{length, getD}
-use Rattle.rules.specs.Limits.{mostDepth, mostCount, headerFlag, updateFlag}
-use Rattle.rules.specs.Lists.{first}
+use Rattle.rules.specs.Limits.{headerFlag, updateFlag}
 use Rattle.rules.specs.State.{wordAt, usedAt, numberAt, valueAt, top, State}
 use Rattle.rules.specs.Words.{pageIn, flagIn}
 use Rattle.rules.specs.Shape.{inShape}
 use Rattle.rules.specs.SetUp.{freshRule}
 use Rattle.rules.specs.Receipt.{receiptRule}
+use Rattle.rules.specs.Listed.{AsListed}
 use Rattle.rules.specs.Act.{act}
 use Rattle.rules.specs.Remember.{Numbered, ReadEvent, Overwriting, By, numbered, unbegun, readEvent}
 use Rattle.rules.specs.History.{Run, latest, runOf}
 use Rattle.rules.specs.declared.state.PageNo.{PageNo}
 use Rattle.rules.specs.declared.state.WriterPhase.the-variants.{Clear}
 use Rattle.rules.specs.declared.state.Action.{Action}
-use Rattle.rules.specs.declared.state.Action.the-variants.{Begin, Write, Read}
 use Rattle.rules.specs.declared.state.Answer.the-variants.{Accepted}
 use Rattle.rules.specs.declared.state.Receipt.{Receipt}
 
@@ -242,21 +241,14 @@ pub record CompleteClaim (c : Receipt) (r : Run) : Type 0 where
 abbrev pub Complete : Run → Type 0
 Complete r = CompleteClaim (receiptRule (r .now)) r
 
--- ---- 9. the ring is always in shape, and an action is refused just as listed
-
--- of a ring in shape: 2 for "Begin at depth 4", 4 for "Begin with begun = 4,294,967,295", 3 for "Write at depth 0", "2 before 4"; 0: it is not refused
-abbrev pub listed : State → Action → ℕ
-listed r (Begin v) = first ((eqb (r .depth) mostDepth, 2) ∷ (eqb (r .counts .begun) mostCount, 4) ∷ []) 0
-listed r Write = first ((eqb (r .depth) 0, 3) ∷ []) 0
-listed r Read = 0
+-- ---- 9. the ring is always in shape: no action and no receipt is refused with 1. That 2, 3 and 4 are given just as listed holds of every state (specs/Listed)
 
 pub record Sound (r : State) : Type 0 where
   pub shape : inShape r ≡ true
-  -- so refusal 1 is never given
-  pub refusals : (a : Action) → act r a .tells .refusal ≡ listed r a
-  -- "Comes back": "the same state"
-  pub same : (a : Action) → listed r a ≢ 0 → act r a .state ≡ r
+  pub unbroken : (a : Action) → act r a .tells .refusal ≢ 1
   pub receipt : receiptRule r .refusal ≡ 0
+  -- demand 1, of this state
+  pub listed : AsListed r
 
 -- ---- all of it: "one claim about the whole list"
 

@@ -8,7 +8,7 @@ use Prim.Native.Nat.{ℕ, zero, suc, _+_, _*_, _^_, _≤_}
 use lib.ListN.{replicate}
 use Rattle.rules.specs.Limits.{mostInRow}
 use Rattle.rules.specs.State.{State}
-use Rattle.rules.specs.Answers.{Outcome}
+use Rattle.rules.specs.Answers.{Told, says, told, Outcome}
 use Rattle.rules.specs.Shape.{inShape}
 use Rattle.rules.specs.Read.{readRule}
 use Rattle.rules.specs.Replay.{stateAfter, answersOf, over}
@@ -66,9 +66,16 @@ pub record DrainOutcome : Type 0 where
   pub state : State
   pub events : List ℕ
   pub last : Last
+  -- what that tells: its number and its values
+  pub tells : Told
+
+-- what the last answer tells; "none" tells nothing
+abbrev pub toldLast : Last → Told
+toldLast None = says []
+toldLast (Given a) = told a
 
 abbrev pub drainWith : State → List ℕ → Last → DrainOutcome
-drainWith r events last = record { state = r; events = events; last = last }
+drainWith r events last = record { state = r; events = events; last = last; tells = toldLast last }
 
 abbrev pub drainEnds : State → Last → DrainOutcome
 drainEnds r last = drainWith r [] last

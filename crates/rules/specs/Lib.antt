@@ -14,6 +14,8 @@ pub mod Write
 pub mod Read
 pub mod Act
 pub mod Receipt
+-- demand 1: refused just as listed
+pub mod Listed
 -- the worked cases
 pub mod Cases
 -- demand 3
@@ -24,5 +26,6 @@ pub mod Demand
 pub mod Codes
 pub mod Actions
 pub mod Replay
+pub mod ReplayCases
 pub mod Drain
 pub mod DrainCases

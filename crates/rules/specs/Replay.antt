@@ -1,13 +1,14 @@
 -- Replay: actions that stand one after the other in some bytes, made one by one on the ring of a set-up. Request E1: "Replay equals the actions one by one".
 -- Assumes nothing.
 use mathlib.Core.Path.{_≡_}
-use mathlib.Core.Bool.{Bool, true, not}
+use mathlib.Core.Bool.{Bool, true, cond, not}
 use mathlib.Core.List.{List, [], _∷_, _++_}
-use Prim.Native.Nat.{ℕ, _+_, _/_}
-use lib.Dec.{ltb}
+use Prim.Native.Nat.{ℕ, _*_}
+use lib.Dec.{eqb, leb}
 use lib.ListN.{length, drop}
 use Rattle.rules.specs.Lists.{first}
 use Rattle.rules.specs.State.{sizeOf, State}
+use Rattle.rules.specs.Answers.{refusalNumber, Told, told}
 use Rattle.rules.specs.Codes.{numbersOf}
 use Rattle.rules.specs.Shape.{sizeFits}
 use Rattle.rules.specs.SetUp.{freshRing, plainRing}
@@ -15,7 +16,7 @@ use Rattle.rules.specs.Act.{act}
 use Rattle.rules.specs.Actions.{Decoded, decoded}
 use Rattle.rules.specs.declared.state.Size.{Size}
 use Rattle.rules.specs.declared.state.Refusal.{Refusal}
-use Rattle.rules.specs.declared.state.Refusal.the-variants.{SetUp, Room}
+use Rattle.rules.specs.declared.state.Refusal.the-variants as refusal
 use Rattle.rules.specs.declared.state.Answer.{Answer}
 use Rattle.rules.specs.declared.state.Answer.the-variants.{Accepted, Refused}
 use Rattle.rules.specs.declared.state.Action.{Action}
@@ -46,9 +47,9 @@ over prefix old = prefix ++ drop (length prefix) old
 abbrev pub ranBuffer : State → Decoded → List ℕ → List ℕ
 ranBuffer r d buffer = over (laid (answersOf r (d .actions))) buffer
 
--- in the buffer lent there is a place for an answer to each byte: as many actions as there may be
-abbrev pub bufferFits : List ℕ → List ℕ → Bool
-bufferFits bytes buffer = not (ltb (length buffer / numbersPerAnswer) (length bytes))
+-- in the buffer lent, of which the length is given, there is a place for the answer of each whole action
+abbrev pub bufferFits : Decoded → ℕ → Bool
+bufferFits d len = leb (numbersPerAnswer * length (d .actions)) len
 
 -- ---- what a replay comes to
 
@@ -57,12 +58,19 @@ pub record ReplayOutcome : Type 0 where
   pub state : State
   -- Accepted, or why the replay was refused
   pub answer : Answer
+  -- what that tells: its number and its values
+  pub tells : Told
   -- how many actions were made, and the place of the first byte after them; 0 where the replay was refused before the first
   pub made : ℕ
   pub stop : ℕ
 
+-- what the answer tells, and "9 ... with the offset of that action's first byte": the place where the actions stop
+abbrev pub toldReplay : Answer → ℕ → Told
+toldReplay a stop =
+    record { refusal = told a .refusal; values = cond (eqb (told a .refusal) (refusalNumber refusal.Action)) (stop ∷ []) (told a .values) }
+
 abbrev pub replayWith : State → Answer → ℕ → ℕ → ReplayOutcome
-replayWith r a made stop = record { state = r; answer = a; made = made; stop = stop }
+replayWith r a made stop = record { state = r; answer = a; tells = toldReplay a stop; made = made; stop = stop }
 
 -- refused before the first action: the plain ring
 abbrev pub refusedReplay : Refusal → ReplayOutcome
@@ -72,12 +80,12 @@ refusedReplay why = replayWith plainRing (Refused why) 0 0
 abbrev pub ran : State → Decoded → ReplayOutcome
 ran r d = replayWith (stateAfter r (d .actions)) Accepted (length (d .actions)) (d .stop)
 
--- refused with SETUP where the set-up is, then with ROOM where the buffer is too short for whatever the bytes hold
+-- refused with SETUP where the set-up is, then with ROOM where the buffer is too short for the answers of the actions that the bytes hold
 abbrev pub replayRule : ℕ → ℕ → ℕ → List ℕ → List ℕ → ReplayOutcome
 replayRule pages slots mode bytes buffer =
     first
-    ((not (sizeFits (sizeOf pages slots mode)), refusedReplay SetUp)
-    ∷ (not (bufferFits bytes buffer), refusedReplay Room)
+    ((not (sizeFits (sizeOf pages slots mode)), refusedReplay refusal.SetUp)
+    ∷ (not (bufferFits (decoded bytes) (length buffer)), refusedReplay refusal.Room)
     ∷ [])
     (ran (freshRing (sizeOf pages slots mode)) (decoded bytes))
 
@@ -86,7 +94,7 @@ abbrev pub bufferRule : ℕ → ℕ → ℕ → List ℕ → List ℕ → List �
 bufferRule pages slots mode bytes buffer =
     first
     ((not (sizeFits (sizeOf pages slots mode)), buffer)
-    ∷ (not (bufferFits bytes buffer), buffer)
+    ∷ (not (bufferFits (decoded bytes) (length buffer)), buffer)
     ∷ [])
     (ranBuffer (freshRing (sizeOf pages slots mode)) (decoded bytes) buffer)
 

@@ -1,19 +1,21 @@
--- An action on a ring in shape is refused just as listed, and its receipt is not refused. The rules of Write and Read answer no refusal, by a look at each
--- rule that may apply; so an action is refused only by its verdict, whose tests are those of the list.
+-- Demand 1: on every state an action and a receipt are refused just as listed, and so is every set-up. The rules of Write and Read answer no refusal, by a look at
+-- each rule that may apply; so an action is refused only by its verdict, whose tests are those of the table. And of a ring in shape none is refused with 1.
 -- Assumes nothing.
-use mathlib.Core.Path.{_≡_, refl}
+use mathlib.Core.Path.{_≡_, refl, sym, _∙_}
 use mathlib.Core.Logic.{_≢_}
 use mathlib.Core.Bool.{true, _&&_, _||_}
 use Prim.Native.Nat.{ℕ}
+use native.Mathlib.Omega.{arith}
 use lib.Dec.{eqb, ltb}
 use Rattle.rules.specs.Limits.{mostDepth, mostCount, stopMode, headerFlag, updateFlag}
-use Rattle.rules.specs.State.{wordAt, usedAt, top, State}
+use Rattle.rules.specs.State.{sizeOf, wordAt, usedAt, top, State}
 use Rattle.rules.specs.Words.{pageIn, flagIn, samePage, readerOnCommit, links, findHeader}
-use Rattle.rules.specs.Shape.{inShape}
+use Rattle.rules.specs.Shape.{sizeFits, inShape}
 use Rattle.rules.specs.Write.{planFull, afterPromote, promoteBy, promoteLook, planPhase, planWrite, moved}
 use Rattle.rules.specs.Read.{readLimit, findBy, planReader, planRead, fetched}
 use Rattle.rules.specs.Act.{act}
-use Rattle.rules.specs.Demand.{listed, Sound}
+use Rattle.rules.specs.Listed.{listed, AsListed, SetUpAsListed, Demand1}
+use Rattle.rules.specs.Demand.{Sound}
 use Rattle.rules.specs.declared.state.PageNo.{PageNo}
 use Rattle.rules.specs.declared.state.WriterPhase.{WriterPhase}
 use Rattle.rules.specs.declared.state.WriterPhase.the-variants as phase
@@ -80,25 +82,71 @@ module _ (s : State) where
   read-not-refused : fetched (planRead s) s .tells .refusal ≡ 0
   read-not-refused = reader-unrefused (s .reader .phase)
 
-  -- ---- an action on a ring in shape
+-- ---- an action, a receipt and a set-up, of any state
+
+module _ (s : State) where
+  refusals : (a : Action) → act s a .tells .refusal ≡ listed s a
+  refusals (action.Begin v) =
+      by-bool (inShape s)
+      (λ fits.
+      by-bool (eqb (s .depth) mostDepth)
+      (λ d. rw (fits, d))
+      (λ d. by-bool (eqb (s .counts .begun) mostCount) (λ w. rw (fits, d, w)) (λ w. rw (fits, d, w))))
+      (λ broken. rw broken)
+  refusals action.Write =
+      by-bool (inShape s)
+      (λ fits. by-bool (eqb (s .depth) 0) (λ d. rw (fits, d)) (λ d. rw (fits, d) (write-not-refused s)))
+      (λ broken. rw broken)
+  refusals action.Read = by-bool (inShape s) (λ fits. rw fits (read-not-refused s)) (λ broken. rw broken)
+
+  same-state : (a : Action) → listed s a ≢ 0 → act s a .state ≡ s
+  same-state (action.Begin v) =
+      by-bool (inShape s)
+      (λ fits.
+      by-bool (eqb (s .depth) mostDepth)
+      (λ d. rw (fits, d) (λ n. refl))
+      (λ d. by-bool (eqb (s .counts .begun) mostCount) (λ w. rw (fits, d, w) (λ n. refl)) (λ w. rw (fits, d, w) (λ n. absurd (n refl)))))
+      (λ broken. rw broken (λ n. refl))
+  same-state action.Write =
+      by-bool (inShape s)
+      (λ fits. by-bool (eqb (s .depth) 0) (λ d. rw (fits, d) (λ n. refl)) (λ d. rw (fits, d) (λ n. absurd (n refl))))
+      (λ broken. rw broken (λ n. refl))
+  same-state action.Read = by-bool (inShape s) (λ fits. rw fits (λ n. absurd (n refl))) (λ broken. rw broken (λ n. refl))
+
+  pub as-listed : AsListed s
+  as-listed =
+      record {
+        refusals = refusals;
+        same = same-state;
+        receipt = by-bool (inShape s) (λ fits. rw fits) (λ broken. rw broken);
+        zero = by-bool (inShape s) (λ fits. rw fits (λ n. absurd (n refl))) (λ broken. rw broken (λ n. refl));
+      }
+
+  -- ---- of a ring in shape, 1 is not listed
 
   module _ (fits : inShape s ≡ true) where
-    refusals : (a : Action) → act s a .tells .refusal ≡ listed s a
-    refusals (action.Begin v) =
+    not-one : (a : Action) → listed s a ≢ 1
+    not-one (action.Begin v) =
         by-bool (eqb (s .depth) mostDepth)
-        (λ d. rw (fits, d))
-        (λ d. by-bool (eqb (s .counts .begun) mostCount) (λ w. rw (fits, d, w)) (λ w. rw (fits, d, w)))
-    refusals action.Write = by-bool (eqb (s .depth) 0) (λ d. rw (fits, d)) (λ d. rw (fits, d) write-not-refused)
-    refusals action.Read = rw fits read-not-refused
-
-    -- a refused action gives the same ring back
-    same-state : (a : Action) → listed s a ≢ 0 → act s a .state ≡ s
-    same-state (action.Begin v) =
-        by-bool (eqb (s .depth) mostDepth)
-        (λ d. rw (fits, d) (λ n. refl))
-        (λ d. by-bool (eqb (s .counts .begun) mostCount) (λ w. rw (fits, d, w) (λ n. refl)) (λ w. rw (fits, d, w) (λ n. absurd (n refl))))
-    same-state action.Write = by-bool (eqb (s .depth) 0) (λ d. rw (fits, d) (λ n. refl)) (λ d. rw (fits, d) (λ n. absurd (n refl)))
-    same-state action.Read = λ n. absurd (n refl)
+        (λ d. rw (fits, d) (λ e. omega arith))
+        (λ d. by-bool (eqb (s .counts .begun) mostCount) (λ w. rw (fits, d, w) (λ e. omega arith)) (λ w. rw (fits, d, w) (λ e. omega arith)))
+    not-one action.Write = by-bool (eqb (s .depth) 0) (λ d. rw (fits, d) (λ e. omega arith)) (λ d. rw (fits, d) (λ e. omega arith))
+    not-one action.Read = rw fits (λ e. omega arith)
 
     pub sound : Sound s
-    sound = record { shape = fits; refusals = refusals; same = same-state; receipt = rw fits }
+    sound =
+        record {
+          shape = fits;
+          unbroken = λ a e. not-one a (sym (refusals a) ∙ e);
+          receipt = rw fits;
+          listed = as-listed;
+        }
+
+set-up-as-listed : (pages slots mode : ℕ) → SetUpAsListed pages slots mode
+set-up-as-listed pages slots mode =
+    by-bool (sizeFits (sizeOf pages slots mode))
+    (λ fits. record { refusal = rw fits; plain = rw fits (λ n. absurd (n refl)) })
+    (λ out. record { refusal = rw out; plain = rw out (λ n. refl) })
+
+pub demand-1 : Demand1
+demand-1 = record { states = as-listed; setUps = set-up-as-listed }
