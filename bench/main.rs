@@ -1,6 +1,7 @@
 //! Times an action of the proved ring against the same work in Rust, in one run: a loop of actions by value, the replay of a trace, and the drain
-//! of a ring, full and with one reading waiting. The rows take turns in each round, so that a slow moment of the machine falls on all of them.
-//! Prints the least and the median of the rounds, in nanoseconds an action, and each row's ratio to Rust with the test of shape.
+//! of a ring, full and with one reading waiting, in Rust by single Reads and in batches as the proved drain makes them. The rows take turns in each
+//! round, so that a slow moment of the machine falls on all of them. Prints the least and the median of the rounds, in nanoseconds an action, and
+//! each row's ratio to Rust with the test of shape before each action.
 
 #[path = "../oracle/src/ring.rs"]
 #[allow(dead_code)]
@@ -12,7 +13,7 @@ mod text;
 #[allow(dead_code)]
 mod trace;
 
-use ring::{Action, Answer, Ring};
+use ring::{Action, Answer, Reader, Ring};
 use std::hint::black_box;
 use std::io::{self, Write};
 use std::process::ExitCode;
@@ -42,6 +43,8 @@ const ROUNDS: usize = 15;
 const TURNS: usize = 60;
 /// How many elements a drain is lent: more than a full ring has readings.
 const ELEMENTS: usize = 300;
+/// How many Reads in a row may bring no Event before a drain ends.
+const MOST_IN_ROW: u32 = 8;
 
 /// A Write while a writer is at work, then Reads until nothing waits, then a Begin.
 fn next_action(ring: &Ring, value: u32) -> Action {
@@ -171,12 +174,82 @@ fn read_out(ring: &mut Ring, buffer: &mut [u64], act: impl Fn(&mut Ring, Action)
     (filled, reads)
 }
 
-/// The Rust loop on a copy of the ring, so many times.
-fn drain_rust(ring: &Ring, buffer: &mut [u64], turns: u32, act: impl Fn(&mut Ring, Action) -> Answer + Copy) -> usize {
+#[inline]
+fn drain_tested(ring: &mut Ring, buffer: &mut [u64]) -> usize {
+    read_out(ring, buffer, Ring::act).0
+}
+
+#[inline]
+fn drain_untested(ring: &mut Ring, buffer: &mut [u64]) -> usize {
+    read_out(ring, buffer, Ring::act_in_shape).0
+}
+
+/// The one clause of the shape that an Event can break.
+#[inline]
+fn agrees(ring: &Ring) -> bool {
+    ring.handed + ring.overwritten <= ring.committed
+}
+
+/// How many Events come one after the other: the least of those on the reader page, those that there is space for, and those that the counts allow.
+/// The one that leaves the ring out of shape is allowed, and is the last.
+#[inline]
+fn event_count(ring: &Ring, space: usize) -> usize {
+    if ring.reader != Reader::Idle {
+        return 0;
+    }
+    let limit = if ring.commit_page == ring.reader_page {
+        ring.commit_index
+    } else {
+        ring.used[ring.reader_page as usize]
+    };
+    let here = limit.saturating_sub(ring.position) as usize;
+    let allowed = ring.committed + 1 - (ring.handed + ring.overwritten);
+    here.min(space).min(allowed as usize)
+}
+
+/// The Reads of as many Events as the part of the buffer has elements, made together.
+#[inline]
+fn lay_events(ring: &mut Ring, part: &mut [u64]) {
+    let from = ring.place(ring.reader_page, ring.position);
+    let slots = from..from + part.len();
+    let readings = ring.numbers[slots.clone()].iter().zip(&ring.values[slots]);
+    for (element, (&number, &value)) in part.iter_mut().zip(readings) {
+        *element = u64::from(number) << 32 | u64::from(value);
+    }
+    ring.position += part.len() as u32;
+    ring.handed += part.len() as u64;
+}
+
+/// The drain as the proved ring makes it: the shape is tested once, Events that stand one after the other are laid together, and a Read of another
+/// kind is made by itself.
+#[inline]
+fn drain_in_batches(ring: &mut Ring, buffer: &mut [u64]) -> usize {
+    let (mut filled, mut left) = (0, MOST_IN_ROW);
+    if !ring.in_shape() {
+        return filled;
+    }
+    while filled < buffer.len() && left > 0 && agrees(ring) {
+        let count = event_count(ring, buffer.len() - filled);
+        if count > 0 {
+            lay_events(ring, &mut buffer[filled..filled + count]);
+            filled += count;
+            left = MOST_IN_ROW;
+            continue;
+        }
+        match ring.act_in_shape(Action::Read) {
+            Answer::Empty | Answer::Busy => break,
+            _ => left -= 1,
+        }
+    }
+    filled
+}
+
+/// A drain in Rust on a copy of the ring, so many times.
+fn drain_rust(ring: &Ring, buffer: &mut [u64], turns: u32, drain: impl Fn(&mut Ring, &mut [u64]) -> usize) -> usize {
     let mut filled = 0;
     for _ in 0..turns {
         let mut copy = black_box(ring).clone();
-        filled = read_out(&mut copy, black_box(buffer), act).0;
+        filled = drain(&mut copy, black_box(buffer));
         black_box(&copy);
     }
     filled
@@ -229,15 +302,19 @@ fn drain_rows(readings: u32, turns: u32) -> Vec<Row> {
             (buffer, made)
         })
     };
-    let (untested, tested) = (ring.clone(), ring);
+    let (untested, tested, batched) = (ring.clone(), ring.clone(), ring);
     vec![
         drained(
             "Rust, in place, no test of shape",
-            Box::new(move |buffer| drain_rust(&untested, buffer, turns, Ring::act_in_shape)),
+            Box::new(move |buffer| drain_rust(&untested, buffer, turns, drain_untested)),
         ),
         drained(
             "Rust, in place, shape tested",
-            Box::new(move |buffer| drain_rust(&tested, buffer, turns, Ring::act)),
+            Box::new(move |buffer| drain_rust(&tested, buffer, turns, drain_tested)),
+        ),
+        drained(
+            "Rust, in place, a batch, shape tested once",
+            Box::new(move |buffer| drain_rust(&batched, buffer, turns, drain_in_batches)),
         ),
         drained(
             "Rattle, Ring::drain_into",
@@ -286,11 +363,11 @@ fn table(heading: &str, rows: &[Row], base: usize) -> String {
         "{heading}: {ROUNDS} rounds, the rows in turn; nanoseconds an action, and the ratio to '{}'\n",
         rows[base].name
     );
-    text += &format!("{:<34}{:>8}{:>8}{:>8}{:>8}\n", "", "least", "ratio", "median", "ratio");
+    text += &format!("{:<44}{:>8}{:>8}{:>8}{:>8}\n", "", "least", "ratio", "median", "ratio");
     for row in rows {
         let (a, b) = ends(row);
         text += &format!(
-            "{:<34}{a:>8.1}{:>8.2}{b:>8.1}{:>8.2}\n",
+            "{:<44}{a:>8.1}{:>8.2}{b:>8.1}{:>8.2}\n",
             row.name,
             a / least,
             b / median
