@@ -4,11 +4,15 @@ use mathlib.Core.Path.{_≡_}
 use mathlib.Core.List.{List}
 use Prim.Native.Nat.{ℕ}
 use denote.Ref.{RefT, now, ptr}
-use Rattle.rules.specs.Drain.{DrainOutcome}
+use Rattle.rules.specs.Drain.{DrainOutcome, toldLast}
 use Rattle.ring.specs.Ring.{stateOf}
 use Rattle.ring.specs.declared.drain_part.DrainPart.{DrainPart}
 
--- the ring, the last answer, and the part of the buffer that holds the events and nothing else; it starts where the buffer starts. Of
+-- the ring, the last answer with what it tells, and the part of the buffer that holds the events and nothing else; it starts where the buffer starts. Of
 -- the reference no more is said: its ghost name is left free.
-abbrev pub handedBack : DrainOutcome → RefT (List ℕ) → DrainPart → Type 0
-handedBack d buffer r = (stateOf (r .ring) ≡ d .state) × (r .last ≡ d .last) × (now (r .part) ≡ d .events) × (ptr (r .part) ≡ ptr buffer)
+pub record HandedBack (d : DrainOutcome) (buffer : RefT (List ℕ)) (r : DrainPart) : Type 0 where
+  pub state : stateOf (r .ring) ≡ d .state
+  pub lastAnswer : r .last ≡ d .last
+  pub tells : toldLast (r .last) ≡ d .tells
+  pub events : now (r .part) ≡ d .events
+  pub start : ptr (r .part) ≡ ptr buffer

@@ -6,4 +6,5 @@ pub mod Turn
 pub mod Replay
 pub mod Drain
 pub mod DrainPart
+pub mod Calls
 pub mod Code

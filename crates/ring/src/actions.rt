@@ -1,8 +1,8 @@
-// Actions as bytes, one after the other: what stands at a place.
+// Actions as bytes, one after the other: what stands at a place, and how many there are.
 ghost use mathlib.Core.Path.{_≡_};
 ghost use Prim.Native.Nat.{_+_, _<_};
 ghost use lib.ListN.{length};
-ghost use Rattle.rules.specs.Actions.{valueOf, beginAt, codedAt};
+ghost use Rattle.rules.specs.Actions.{valueOf, beginAt, codedAt, decodedFrom};
 use rules::actions::Coded;
 use rules::state::Action;
 
@@ -25,6 +25,7 @@ fn begin_at(bytes: &[u8], at: usize) -> Coded
     Coded::Whole(Action::Begin(value), at + Action::BEGIN_LENGTH)
 }
 
+// What stands at a place.
 pub fn action_at(bytes: &[u8], at: usize) -> Coded
     ensures { λ r. ⌜ r ≡ codedAt (now (bytes .entry)) at ⌝ }
 {
@@ -42,4 +43,17 @@ pub fn action_at(bytes: &[u8], at: usize) -> Coded
         return Coded::Whole(Action::Read, at + 1);
     }
     Coded::Broken
+}
+
+// How many whole actions stand one after the other from a place on.
+pub fn action_count(bytes: &[u8], from: usize) -> usize
+    ensures { λ r. ⌜ r ≡ length (decodedFrom (now (bytes .entry)) from .actions) ⌝ }
+{
+    let mut at = from;
+    let mut count: usize = 0;
+    while let Coded::Whole(_action, next) = action_at(bytes, at) {
+        at = next;
+        count = count + 1;
+    }
+    count
 }

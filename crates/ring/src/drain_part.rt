@@ -4,7 +4,7 @@ ghost use mathlib.Core.Path.{_≡_};
 ghost use Prim.Native.Nat.{_≤_};
 ghost use lib.ListN.{length, take};
 ghost use Rattle.rules.specs.Drain.{drainRule};
-ghost use Rattle.ring.specs.DrainPart.{handedBack};
+ghost use Rattle.ring.specs.DrainPart.{HandedBack};
 ghost use Rattle.ring.specs.Ring.{stateOf};
 use crate::state::Ring;
 use rules::state::Last;
@@ -29,7 +29,7 @@ impl Ring {
     // the buffer's lifetime, so no clause here can speak of the elements beyond the part; that they keep their contents is promised by
     // `drain_into`.
     pub fn drain<'a>(self, buffer: &'a mut [u64]) -> DrainPart<'a>
-        ensures { λ r. ⌜ handedBack (drainRule (stateOf self) (length (now (buffer .entry)))) (buffer .entry) r ⌝ }
+        ensures { λ r. ⌜ HandedBack (drainRule (stateOf self) (length (now (buffer .entry)))) (buffer .entry) r ⌝ }
     {
         let f = self.drain_into(buffer);
         let part = prefix(buffer, f.count);

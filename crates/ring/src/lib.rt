@@ -22,6 +22,7 @@ pub mod drain_part; // the same, with the part that is filled handed back
 
 // what a caller names
 pub use actions::action_at;
+pub use actions::action_count;
 pub use codes::answer_numbers;
 pub use drain_part::DrainPart;
 pub use rules::actions::Coded;

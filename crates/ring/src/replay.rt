@@ -4,11 +4,12 @@ ghost use mathlib.Core.Path.{_≡_};
 ghost use Prim.Native.Nat.{_+_, _*_, _<_, _≤_};
 ghost use lib.ListN.{length};
 ghost use Rattle.rules.specs.Actions.{decoded};
-ghost use Rattle.rules.specs.Replay.{numbersPerAnswer, ranBuffer, replayWith, refusedReplay, ran, replayRule, bufferRule, Reached};
+ghost use Rattle.rules.specs.Replay.{numbersPerAnswer, ranBuffer, bufferFits, replayWith, refusedReplay, ran, replayRule, bufferRule, Reached};
 ghost use Rattle.ring.specs.Replay.{replayOutcome, laidAt};
 ghost use Rattle.ring.specs.Ring.{stateOf};
 ghost use Rattle.rules.specs.declared.state.Answer.the-variants.{Accepted};
 use crate::actions::action_at;
+use crate::actions::action_count;
 use crate::change::change_by;
 use crate::change::store_numbers;
 use crate::change::store_used;
@@ -33,6 +34,18 @@ fn lay_answer(buffer: &mut [u64], at: usize, n: Numbers)
     buffer[at] = n.code as u64;
     buffer[at + 1] = n.first;
     buffer[at + 2] = n.second;
+}
+
+// Whether a buffer of `room` numbers has a place for the answer of each action of `bytes`. There are no more actions than bytes, so that they are
+// counted only where the buffer has no place for an answer to each byte.
+fn answers_fit(bytes: &[u8], room: usize) -> bool
+    ensures { λ r. ⌜ r ≡ bufferFits (decoded (now (bytes .entry))) room ⌝ }
+{
+    let places = room / NUMBERS_PER_ANSWER;
+    if bytes.len() <= places {
+        return true;
+    }
+    action_count(bytes, 0) <= places
 }
 
 // Refused before the first action: the plain ring.
@@ -63,7 +76,7 @@ fn ended(ring: Ring, made: usize, stop: usize) -> Replay
 impl Ring {
     // All the whole actions from the first byte on.
     fn run(mut self, bytes: &[u8], buffer: &mut [u64]) -> Replay
-        requires { ⌜ Reached (stateOf self) × (numbersPerAnswer * length (now bytes) ≤ length (now buffer)) ⌝ }
+        requires { ⌜ Reached (stateOf self) × (numbersPerAnswer * length (decoded (now bytes) .actions) ≤ length (now buffer)) ⌝ }
         ensures { λ r. ⌜ (replayOutcome r ≡ ran (stateOf self) (decoded (now (bytes .entry)))) × (now (buffer .exit) ≡ ranBuffer (stateOf self) (decoded (now (bytes .entry))) (now (buffer .entry))) ⌝ }
     {
         let mut at: usize = 0;
@@ -107,14 +120,14 @@ impl Ring {
 
     // The actions of `bytes` on the ring of a set-up, up to the first that is unknown or cut: `stop` says where, and the answer is Accepted there too.
     // Their answers are in the buffer lent, NUMBERS_PER_ANSWER numbers each. Refused with SETUP where `fresh` refuses, and with ROOM where the buffer has no
-    // place for an answer to each byte: there may be as many actions.
+    // place for the answer of each action (`action_count` says how many there are).
     pub fn replay(pages: u32, slots: u32, mode: u32, bytes: &[u8], buffer: &mut [u64]) -> Replay
         ensures { λ r. ⌜ (replayOutcome r ≡ replayRule pages slots mode (now (bytes .entry)) (now (buffer .entry))) × (now (buffer .exit) ≡ bufferRule pages slots mode (now (bytes .entry)) (now (buffer .entry))) ⌝ }
     {
         if !Ring::accepts(pages, slots, mode) {
             return refused_replay(Refusal::SetUp);
         }
-        if buffer.len() / NUMBERS_PER_ANSWER < bytes.len() {
+        if !answers_fit(bytes, buffer.len()) {
             return refused_replay(Refusal::Room);
         }
         let first = Ring::fresh(pages, slots, mode);

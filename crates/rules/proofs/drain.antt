@@ -1,4 +1,5 @@
 -- A drain is so many Reads made singly, and eight Reads in a row never end one of a ring that is reached.
+pub mod Told
 pub mod Singly
 pub mod Soon
 pub mod Within

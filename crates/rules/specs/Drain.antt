@@ -74,15 +74,15 @@ abbrev pub toldLast : Last → Told
 toldLast None = says []
 toldLast (Given a) = told a
 
-abbrev pub drainWith : State → List ℕ → Last → DrainOutcome
-drainWith r events last = record { state = r; events = events; last = last; tells = toldLast last }
+abbrev pub drainWith : State → List ℕ → Last → Told → DrainOutcome
+drainWith r events last tells = record { state = r; events = events; last = last; tells = tells }
 
 abbrev pub drainEnds : State → Last → DrainOutcome
-drainEnds r last = drainWith r [] last
+drainEnds r last = drainWith r [] last (toldLast last)
 
 -- one event before others
 abbrev pub eventFirst : ℕ → DrainOutcome → DrainOutcome
-eventFirst e d = drainWith (d .state) (e ∷ d .events) (d .last)
+eventFirst e d = drainWith (d .state) (e ∷ d .events) (d .last) (d .tells)
 
 -- after a Read: its event with what comes `later`; the end; or, after a quiet answer, `on`
 abbrev pub byKind : DrainKind → DrainOutcome → DrainOutcome → DrainOutcome → DrainOutcome

@@ -1,75 +1,44 @@
--- Demand 3 and 'complete' of the code: of any run of `Ring::act` from `Ring::fresh`, and of `Ring::receipt` after it. What the functions give is what their callers
--- learn of them (`Learnt`), which is that each step is the rule's; so the run of the code is the run of the rules. That the functions keep these promises is proved
--- under proofs/state/Ring (fresh, act, receipt), not here; that there are such runs, in CodeRuns.
--- Assumes nothing.
-use mathlib.Core.Path.{_≡_, refl, sym, ap, _∙_, subst}
-use mathlib.Core.List.{List, [], _∷_}
-use Prim.Native.Nat.{ℕ}
+-- Demands 1 and 3 of the code. Demand 1 is that of the rules (`demand-1`), read off each function's promise. Demand 3: however a run begins (Start), its calls are single actions
+-- (Singly), and these are a run of the rules (Runs). That there are such runs: CodeRuns. Assumes nothing.
+use mathlib.Core.Path.{refl, ap, _∙_}
 use Rattle.rules.specs.Answers.{Outcome}
-use Rattle.rules.specs.Receipt.{receiptRule}
-use Rattle.rules.specs.Remember.{History}
-use Rattle.rules.specs.History.{Run, runAt, after, runOf, nothing, recall, valueIn}
-use Rattle.rules.specs.Demand.{Claim, CompleteClaim, Sound, RunClaim}
-use Rattle.ring.specs.Ring.{stateOf, outcome}
-use Rattle.ring.specs.Code.{Call, asked, lastRing, runTold, runFrom, Follow, CodeDemand3}
+use Rattle.rules.specs.Listed.{listed}
+use Rattle.ring.specs.Ring.{stateOf}
+use Rattle.ring.specs.Code.{StepAsListed, CodeDemand1, NoAction, CodeDemand3}
 use Rattle.rules.specs.declared.state.Action.{Action}
+use Rattle.rules.specs.declared.state.Action.the-variants as action
 use Rattle.rules.specs.declared.state.Receipt.{Receipt}
 use Rattle.ring.specs.declared.state.Ring.{Ring}
 use Rattle.ring.specs.declared.state.Step.{Step}
-use Rattle.rules.proofs.demand.Theorem.{demand-3}
-use Rattle.ring.proofs.state.Ring.fresh.Reads as fresh-promise
-use Rattle.ring.proofs.state.Ring.act.Reads as act-promise
-use Rattle.ring.proofs.state.Ring.receipt.Reads as receipt-promise
+use Rattle.rules.proofs.demand.Refusals.{demand-1}
+use Rattle.ring.proofs.Representation.{same-ring}
+use Rattle.ring.proofs.demand.Promises.{promises}
+use Rattle.ring.proofs.demand.Start.{plain-claim, fresh-claim, replay-claim}
 
--- ---- what callers learn of the functions: of the parameters, the result, and the parameters again, which are passed by value and stay
+-- ---- demand 1
 
-abbrev pub FreshGives : ℕ → ℕ → ℕ → Step → Type 0
-FreshGives pages slots mode s = fresh-promise.Learnt tt (pages, (slots, (mode, tt))) s (pages, (slots, (mode, tt)))
-
-abbrev pub ActGives : Ring → Action → Step → Type 0
-ActGives r a s = act-promise.Learnt tt (r, (a, tt)) s (r, (a, tt))
-
-abbrev pub ReceiptGives : Ring → Receipt → Type 0
-ReceiptGives r c = receipt-promise.Learnt tt (r, tt) c (r, tt)
-
--- ---- the run of the code is the run of the rules
-
--- the run that goes on by an outcome of action a
-abbrev by : Run → Action → Outcome → Run
-by r a o = runAt (o .state) (recall (valueIn a) (r .now) (o .answer) (r .past))
-
--- it ends in the state of the last ring
-last-told : (r : Ring) (past : History) (calls : List Call) → stateOf (lastRing r calls) ≡ runTold (runAt (stateOf r) past) calls .now
-last-told r past [] = refl
-last-told r past (m ∷ rest) = last-told (m .step .ring) (by (runAt (stateOf r) past) (m .action) (outcome (m .step)) .past) rest
-
-told-after :
-    (r : Ring) (past : History) (calls : List Call) →
-    Follow FreshGives ActGives ReceiptGives r calls →
-    runTold (runAt (stateOf r) past) calls ≡ after (runAt (stateOf r) past) (asked calls)
-told-after r past [] f = refl
-told-after r past (m ∷ rest) f =
-    let here = runAt (stateOf r) past in
-    told-after (m .step .ring) (by here (m .action) (outcome (m .step)) .past) rest (f .1)
-    ∙ ap (λ (o : Outcome). after (by here (m .action) o) (asked rest)) (f .0)
-
-pub code-demand-3 : CodeDemand3 FreshGives ActGives ReceiptGives
-code-demand-3 pages slots mode first given accepted calls follows c receipt =
-    let r = runFrom first calls in
-    let last = lastRing (first .ring) calls in
-    let now = last-told (first .ring) nothing calls in
-    let ruled : r ≡ runOf pages slots mode (asked calls) =
-    told-after (first .ring) nothing calls follows ∙ ap (λ (o : Outcome). after (runAt (o .state) nothing) (asked calls)) given in
-    let rulesAccept = sym (ap (λ (o : Outcome). o .answer) given) ∙ accepted in
-    let whole : RunClaim r = subst RunClaim (sym ruled) (demand-3 pages slots mode rulesAccept (asked calls)) in
-    let sound : Sound (stateOf last) = subst Sound (sym now) (whole .sound) in
-    let its : c ≡ receiptRule (r .now) = receipt ∙ ap receiptRule now in
+step-listed : (r : Ring) (a : Action) (s : Step) → promises .act r a s → StepAsListed r (listed (stateOf r) a) s
+step-listed r a s g =
+    let known = demand-1 .states (stateOf r) in
     record {
-      now = now;
-      demand = subst (λ (c : Receipt). Claim c r) (sym its) (whole .demand);
-      complete = subst (λ (c : Receipt). CompleteClaim c r) (sym its) (whole .complete);
-      shape = sound .shape;
-      refusals = λ a s gives. ap (λ (o : Outcome). o .tells .refusal) gives ∙ sound .refusals a;
-      same = λ a s gives refused. ap (λ (o : Outcome). o .state) gives ∙ sound .same a refused;
-      receipt = ap (λ (c : Receipt). c .refusal) receipt ∙ sound .receipt;
+      refusal = ap (λ (o : Outcome). o .tells .refusal) g ∙ known .refusals a;
+      same = λ n. same-ring (s .ring) (stateOf r) (ap (λ (o : Outcome). o .state) g ∙ known .same a n);
     }
+
+pub code-demand-1 : CodeDemand1 promises
+code-demand-1 =
+    record {
+      begin = λ r v s g. step-listed r (action.Begin v) s g;
+      write = λ r s g. step-listed r action.Write s g;
+      read = λ r s g. step-listed r action.Read s g;
+      act = step-listed;
+      receipt = λ r c g. ap (λ (c : Receipt). c .refusal) g ∙ demand-1 .states (stateOf r) .receipt;
+      zero = λ r c g n. g ∙ demand-1 .states (stateOf r) .zero n;
+      setUp = λ pages slots mode s g. ap (λ (o : Outcome). o .tells .refusal) g ∙ demand-1 .setUps pages slots mode .refusal;
+      plain = λ pages slots mode s g n. ap (λ (o : Outcome). o .state) g ∙ demand-1 .setUps pages slots mode .plain n;
+    }
+
+-- ---- demand 3
+
+pub code-demand-3 : CodeDemand3 promises
+code-demand-3 = record { fresh = fresh-claim; plain = λ r g. plain-claim (NoAction promises) r g refl; replay = replay-claim }

@@ -15,7 +15,7 @@ use Rattle.rules.specs.State.{withHanded, State}
 use Rattle.rules.specs.Shape.{inShape}
 use Rattle.rules.specs.Replay.{over}
 use Rattle.rules.specs.Limits.{mostInRow}
-use Rattle.rules.specs.Drain.{DrainOutcome, drainWith, drainEnds, drainReads, bufferAfter}
+use Rattle.rules.specs.Drain.{DrainOutcome, toldLast, drainWith, drainEnds, drainReads, bufferAfter}
 use Rattle.ring.specs.Turn.{eventsFrom, lastAfter, turnOf, turned}
 use Rattle.ring.specs.Drain.{CountMatches}
 use Rattle.rules.specs.declared.state.Last.{Last}
@@ -65,7 +65,7 @@ abbrev whole : State → List ℕ → DrainOutcome
 whole r buffer = drainReads mostInRow (length buffer) r None
 
 eventsFirst-append : (xs ys : List ℕ) (d : DrainOutcome) → eventsFirst xs (eventsFirst ys d) ≡ eventsFirst (xs ++ ys) d
-eventsFirst-append xs ys d = ap (λ (l : List ℕ). drainWith (d .state) l (d .last)) (sym (append-assoc xs ys (d .events)))
+eventsFirst-append xs ys d = ap (λ (l : List ℕ). drainWith (d .state) l (d .last) (d .tells)) (sym (append-assoc xs ys (d .events)))
 
 -- the ring r0 has become r, the buffer buffer0 has become buffer, `at` elements are laid, and what is left to do is what is left of the drain
 pub record Progress (r0 : State) (buffer0 : List ℕ) (r : State) (buffer : List ℕ) (at left : ℕ) (last : Last) : Type 0 where
@@ -180,11 +180,13 @@ module _ {r0 : State} {buffer0 : List ℕ} {r : State} {buffer : List ℕ} {at l
       (a && b) && ok ≡ false →
       CountMatches (whole r0 buffer0) (drainCount r (lastAfter (a && b) last) at) × (buffer ≡ bufferAfter (whole r0 buffer0) buffer0)
   finish a b ok ea eb eo h =
-      let all : whole r0 buffer0 ≡ drainWith r (p .events) (lastAfter (a && b) last) =
-      p .rest ∙ ap (eventsFirst (p .events)) (ends a b ok ea eb eo h) ∙ ap (λ (es : List ℕ). drainWith r es (lastAfter (a && b) last)) (append-nil (p .events)) in (
+      let end = lastAfter (a && b) last in
+      let all : whole r0 buffer0 ≡ drainWith r (p .events) end (toldLast end) =
+      p .rest ∙ ap (eventsFirst (p .events)) (ends a b ok ea eb eo h) ∙ ap (λ (es : List ℕ). drainWith r es end (toldLast end)) (append-nil (p .events)) in (
         record {
           state = ap (λ (d : DrainOutcome). d .state) (sym all);
           lastAnswer = ap (λ (d : DrainOutcome). d .last) (sym all);
+          tells = ap (λ (d : DrainOutcome). d .tells) (sym all);
           count = p .count ∙ ap (λ (d : DrainOutcome). length (d .events)) (sym all);
         },
         p .laid ∙ ap (λ (d : DrainOutcome). bufferAfter d buffer0) (sym all),

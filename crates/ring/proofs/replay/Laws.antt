@@ -21,7 +21,7 @@ use Rattle.rules.specs.declared.state.Action.{Action}
 use Rattle.rules.specs.declared.state.Answer.{Answer}
 use Rattle.rules.specs.declared.state.Answer.the-variants.{Accepted}
 use Rattle.rules.specs.declared.actions.Coded.the-variants.{Whole}
-use Rattle.rules.proofs.actions.Laws.{whole-moves, decoded-whole}
+use Rattle.rules.proofs.actions.Laws.{decoded-whole}
 use Rattle.rules.proofs.runs.Reached.{after-append, reached-shape}
 use Rattle.ring.proofs.change.Laws.{change-acts}
 
@@ -93,13 +93,10 @@ pub record Progress (r0 : State) (bytes buffer0 : List ℕ) (r : State) (buffer 
   pub answers : buffer ≡ over (laid (answersOf r0 done)) buffer0
   pub count : made ≡ length done
   pub rest : decoded bytes ≡ actionsFirst done (decodedFrom bytes at)
-  -- each action took a byte at least
-  pub within : at ≤ length bytes
-  pub fewer : made ≤ at
 
 pub start : (r : State) (bytes buffer : List ℕ) → Progress r bytes buffer r buffer 0 0
 start r bytes buffer =
-    record { done = []; state = refl; answers = refl; count = refl; rest = refl; within = omega arith; fewer = omega arith }
+    record { done = []; state = refl; answers = refl; count = refl; rest = refl }
 
 module _ {r0 : State} {bytes buffer0 : List ℕ} {r : State} {buffer : List ℕ} {at made : ℕ} (p : Progress r0 bytes buffer0 r buffer at made) where
   pub shaped : Reached r0 → inShape r ≡ true
@@ -109,30 +106,41 @@ module _ {r0 : State} {bytes buffer0 : List ℕ} {r : State} {buffer : List ℕ}
   prefix-length : length (laid (answersOf r0 (p .done))) ≡ numbersPerAnswer * made
   prefix-length = laid-length r0 (p .done) ∙ ap (λ (k : ℕ). numbersPerAnswer * k) (sym (p .count))
 
-  pub buffer-length : numbersPerAnswer * length bytes ≤ length buffer0 → length buffer ≡ length buffer0
+  -- the actions are those made and those left
+  counted : length (decoded bytes .actions) ≡ made + length (decodedFrom bytes at .actions)
+  counted =
+      ap (λ (d : Decoded). length (d .actions)) (p .rest)
+      ∙ length-append (p .done) (decodedFrom bytes at .actions)
+      ∙ ap (λ (k : ℕ). k + length (decodedFrom bytes at .actions)) (sym (p .count))
+
+  pub one-left : {a : Action} {to : ℕ} → codedAt bytes at ≡ Whole a to → made + 1 ≤ length (decoded bytes .actions)
+  one-left coded =
+      let n = counted in
+      let some = ap (λ (d : Decoded). length (d .actions)) (decoded-whole bytes at coded) in
+      omega arith
+
+  pub buffer-length : numbersPerAnswer * length (decoded bytes .actions) ≤ length buffer0 → length buffer ≡ length buffer0
   buffer-length fits =
       let n = prefix-length in
-      let m = p .fewer in
-      let l = p .within in
+      let m = counted in
       ap length (p .answers) ∙ over-length (laid (answersOf r0 (p .done))) buffer0 (omega arith)
 
   pub turn :
       {a : Action} {to : ℕ} {r' : State} {buffer' : List ℕ} →
       Reached r0 →
-      numbersPerAnswer * length bytes ≤ length buffer0 →
+      numbersPerAnswer * length (decoded bytes .actions) ≤ length buffer0 →
       codedAt bytes at ≡ Whole a to →
       r' ≡ changed (changeOf r a) r →
       buffer' ≡ laidAt buffer (numbersPerAnswer * made) (changeOf r a .answer) →
       Progress r0 bytes buffer0 r' buffer' to (made + 1)
   turn {a} {to} {r'} {buffer'} h fits coded changes lays =
-      let moves = whole-moves bytes at coded in
       let agrees = change-acts r (shaped h) a in
       let so-far = p .done in
       let prefix = laid (answersOf r0 so-far) in
       let here = act (stateAfter r0 so-far) a .answer in
       let number : changeOf r a .answer ≡ numbersOf here = sym (agrees .answer) ∙ ap (λ (q : State). numbersOf (act q a .answer)) (p .state) in
       let long = prefix-length in
-      let few = p .fewer in
+      let left = one-left coded in
       record {
         done = so-far ++ one a;
         state = changes ∙ sym (agrees .state) ∙ ap (λ (q : State). act q a .state) (p .state) ∙ sym (after-more r0 so-far a);
@@ -148,8 +156,6 @@ module _ {r0 : State} {bytes buffer0 : List ℕ} {r : State} {buffer : List ℕ}
             p .rest
             ∙ ap (actionsFirst so-far) (decoded-whole bytes at coded)
             ∙ ap (λ (l : List Action). ends l (decodedFrom bytes to .stop)) (sym (append-snoc so-far a (decodedFrom bytes to .actions)));
-        within = moves .1;
-        fewer = omega arith;
       }
 
   -- where no whole action stands

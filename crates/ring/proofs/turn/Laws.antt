@@ -52,10 +52,10 @@ drains-on (suc space) r last = refl
 
 -- some events before others
 abbrev pub eventsFirst : List ℕ → DrainOutcome → DrainOutcome
-eventsFirst es d = drainWith (d .state) (es ++ d .events) (d .last)
+eventsFirst es d = drainWith (d .state) (es ++ d .events) (d .last) (d .tells)
 
 eventsFirst-more : (es : List ℕ) (e : ℕ) (d : DrainOutcome) → eventsFirst es (eventFirst e d) ≡ eventsFirst (es ++ (e ∷ [])) d
-eventsFirst-more es e d = ap (λ (l : List ℕ). drainWith (d .state) l (d .last)) (sym (append-snoc es e (d .events)))
+eventsFirst-more es e d = ap (λ (l : List ℕ). drainWith (d .state) l (d .last) (d .tells)) (sym (append-snoc es e (d .events)))
 
 -- one Read of a ring in shape
 module _ (q : State) (n l : ℕ) (last : Last) where

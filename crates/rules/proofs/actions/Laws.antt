@@ -54,6 +54,20 @@ enough bytes (suc k) (suc m) at h l =
     same-rest bytes at (decodedWithin k bytes) (decodedWithin m bytes) (codedAt bytes at) refl
     (λ next n. enough bytes k m next (omega arith) (omega arith))
 
+-- there are no more of them than bytes are left
+goes-few : (k at : ℕ) (f : ℕ → Decoded) → ((next : ℕ) → length (f next .actions) ≤ k) → (c : Coded) → length (goOn c f at .actions) ≤ suc k
+goes-few k at f h (Whole a next) = let n = h next in omega arith
+goes-few k at f h Broken = omega arith
+goes-few k at f h End = omega arith
+
+few-within : (k : ℕ) (bytes : List ℕ) (at : ℕ) → length (decodedWithin k bytes at .actions) ≤ k
+few-within zero bytes at = omega arith
+few-within (suc k) bytes at = goes-few k at (decodedWithin k bytes) (few-within k bytes) (codedAt bytes at)
+
+pub few-actions : (bytes : List ℕ) (at : ℕ) → length (decodedFrom bytes at .actions) ≤ length bytes - at
+unfolding decodedFrom
+few-actions bytes at = few-within (length bytes - at) bytes at
+
 -- they end within the bytes
 module _ (bytes : List ℕ) where
   goes-within : (at : ℕ) (f : ℕ → Decoded) → ((next : ℕ) → next ≤ length bytes → f next .stop ≤ length bytes) → at ≤ length bytes → (c : Coded)

@@ -54,6 +54,7 @@ use Rattle.ring.specs.Drain.{CountMatches}
 use Rattle.ring.specs.declared.state.Ring.{Ring}
 use Rattle.ring.specs.declared.state.DrainCount.{DrainCount}
 use Rattle.ring.specs.declared.drain_part.DrainPart.{DrainPart}
+use Rattle.rules.proofs.drain.Told.{drain-tells}
 use Rattle.rules.proofs.state.Last.Laws as L′
 use Rattle.ring.proofs.Representation.{ringOf}
 use Rattle.ring.proofs.drain.Laws.{drainCount, count-is}
@@ -202,7 +203,7 @@ module _ {M : Type 1} (𝓤 : URA M) (H : Heap 𝓤) (A : Atoms 𝓤) (W : Given
   exits : (p : RefT (List ℕ)) → (now p ≡ take n left) × (p .ptr ≡ (b, o)) → ent 𝓤 (⋆ 𝓤 H A ((‵ (flft κ q) ⊛ ‵ ftrue) ∷ ‵ (MutSlice (named 0) κ u64 .own p (slice-vals p)) ∷ ‵ Own ∷ [])) (Post (mach p))
   exits p e =
       qed W ((‵ (flft κ q) ⊛ ‵ ftrue) ∷ ‵ (MutSlice (named 0) κ u64 .own p (slice-vals p)) ∷ ‵ Own ∷ []) ∵
-      suffices ! _ (ends-at 𝓤 H A drain.ended stayed (drain.clauses 𝓤 H A mem run) W (((κ, tt), (q, tt), tt, (r, (x γ ys, tt)), vals), tt) (mach p) (made p) (tt, (tt, tt)) (tt, (tt, tt))) $ says ! (refl, refl, e .0 ∙ take-append-seam (found .events) (drop n ys), e .1) $
+      suffices ! _ (ends-at 𝓤 H A drain.ended stayed (drain.clauses 𝓤 H A mem run) W (((κ, tt), (q, tt), tt, (r, (x γ ys, tt)), vals), tt) (mach p) (made p) (tt, (tt, tt)) (tt, (tt, tt))) $ says ! record { state = refl; lastAnswer = refl; tells = drain-tells (stateOf r) (length ys); events = e .0 ∙ take-append-seam (found .events) (drop n ys); start = e .1 } $
       frame ! $ nothing ! $ nothing ! $ fjoin ! $ nothing ! $ fjoin ! $ frame ! $
       -- [what the part owns; what the ring, the last answer and the count own]
       move ! (1 ∷ []) $ fsplit ! $ move ! (1 ∷ []) $ fsplit ! $ nothing ! $ move ! (1 ∷ 0 ∷ []) $ fjoin ! $ move ! (2 ∷ 0 ∷ []) $ fjoin ! $ move ! (2 ∷ 0 ∷ []) $ fjoin ! $

@@ -37,7 +37,7 @@ fitting : (c : tie.After-layout-fits) → counts-tested-at c .counts-fit .result
 fitting c = tested-inShape (self c) (counts-tested-at c .counts-fit .ensures) (c .layout-fits .ensures) (narrow (start c))
 
 returns : tie.Need-returns
-returns c = rw (sym (fitting (c .before)) ∙ not-true _ (c .if1 .taken)) (record { state = refl; lastAnswer = refl; count = refl }, refl)
+returns c = rw (sym (fitting (c .before)) ∙ not-true _ (c .if1 .taken)) (record { state = refl; lastAnswer = refl; tells = refl; count = refl }, refl)
 
 shaped : (c : tie.Else1) → inShape (self (c .before)) ≡ true
 shaped c = sym (fitting (c .before)) ∙ not-false _ (c .if1 .left)

@@ -20,7 +20,7 @@ use Rattle.rules.proofs.actions.Laws.{whole-moves, decoded-stops}
 use Rattle.rules.proofs.shape.Laws.{InShape, in-shape}
 use Rattle.ring.proofs.moves.Laws.{stops-of-numbers}
 use Rattle.ring.proofs.change.Laws.{change-precondition, change-top, change-stores}
-use Rattle.ring.proofs.replay.Laws.{Progress, start as nothing-done, shaped, buffer-length, turn, finish}
+use Rattle.ring.proofs.replay.Laws.{Progress, start as nothing-done, shaped, one-left, buffer-length, turn, finish}
 use Rattle.ring.proofs.state.Ring.run.Statement.{statement}
 use Rattle.ring.proofs.state.Ring.run.Tie as tie
 
@@ -73,7 +73,7 @@ buffer-small : (l : Loop) → length (start l .args .buffer .now) < 2 ^ 64
 buffer-small l = search needs
 
 buffer-here : (c : Turns) → numbersPerAnswer * loop-top c .loop .made + 3 ≤ length (loop-top c .loop .buffer)
-buffer-here c = omega (arith, moves-here c, same-buffer (loop-top c), start (loop-top c) .pre .1, loop-top c .loop .inv .fewer)
+buffer-here c = omega (arith, one-left (loop-top c .loop .inv) (coded-here c), same-buffer (loop-top c), start (loop-top c) .pre .1)
 
 made-small : (c : Turns) → numbersPerAnswer * loop-top c .loop .made + 3 < 2 ^ 64
 made-small c = omega (arith, buffer-here c, same-buffer (loop-top c), buffer-small (loop-top c))

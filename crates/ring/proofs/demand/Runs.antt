@@ -1,0 +1,77 @@
+-- Single actions that follow one another from the ring of an accepted set-up are a run of the rules, since each step is the rule's; so the claim of the rules holds of them
+-- (`singles-claim`), and of calls, which are single actions (`calls-claim`).
+-- Assumes nothing.
+use mathlib.Core.Path.{_≡_, refl, sym, ap, _∙_, subst}
+use mathlib.Core.List.{List, [], _∷_, _++_}
+use Rattle.rules.specs.State.{State}
+use Rattle.rules.specs.Answers.{Outcome}
+use Rattle.rules.specs.Receipt.{receiptRule}
+use Rattle.rules.specs.Remember.{History}
+use Rattle.rules.specs.History.{Run, runAt, after, runOf, nothing, recall, valueIn}
+use Rattle.rules.specs.Demand.{Claim, CompleteClaim, Sound, RunClaim}
+use Rattle.ring.specs.Ring.{stateOf, outcome}
+use Rattle.ring.specs.Calls.{Single, asked, lastRing, lastBack, FollowSingly, Leads}
+use Rattle.ring.specs.Code.{runTold, runFrom, CodeClaim, AcceptedRing, ForCalls}
+use Rattle.rules.specs.declared.state.Action.{Action}
+use Rattle.rules.specs.declared.state.Receipt.{Receipt}
+use Rattle.ring.specs.declared.state.Ring.{Ring}
+use Rattle.rules.proofs.demand.Theorem.{demand-3}
+use Rattle.ring.proofs.demand.Promises.{promises}
+use Rattle.ring.proofs.demand.Steps.{leads-append}
+use Rattle.ring.proofs.demand.Singly.{calls-singly}
+
+-- the run that goes on by an outcome of action a
+abbrev by : Run → Action → Outcome → Run
+by r a o = runAt (o .state) (recall (valueIn a) (r .now) (o .answer) (r .past))
+
+-- it ends in the state of the last ring
+last-told : (r : Ring) (past : History) (l : List Single) → stateOf (lastRing r l) ≡ runTold (runAt (stateOf r) past) l .now
+last-told r past [] = refl
+last-told r past (x ∷ rest) = last-told (x .step .ring) (by (runAt (stateOf r) past) (x .action) (outcome (x .step)) .past) rest
+
+told-after :
+    (r : Ring) (past : History) (l : List Single) →
+    FollowSingly promises r l →
+    runTold (runAt (stateOf r) past) l ≡ after (runAt (stateOf r) past) (asked l)
+told-after r past [] f = refl
+told-after r past (x ∷ rest) f =
+    let here = runAt (stateOf r) past in
+    told-after (x .step .ring) (by here (x .action) (outcome (x .step)) .past) rest (f .1)
+    ∙ ap (λ (o : Outcome). after (by here (x .action) o) (asked rest)) (f .0)
+
+module _ (first : Ring) (start : AcceptedRing promises first) where
+  singles-claim : (l : List Single) (last : Ring) → Leads promises first l last → (c : Receipt) → promises .receipt last c → CodeClaim promises last c (runFrom first l)
+  singles-claim l last leads c receipt =
+      let setUp = start .setUp in
+      let r = runFrom first l in
+      let now : stateOf last ≡ r .now = ap stateOf (sym (leads .last)) ∙ last-told first nothing l in
+      let begins = ap stateOf (sym (setUp .ring)) ∙ ap (λ (o : Outcome). o .state) (setUp .given) in
+      let ruled : r ≡ runOf (start .pages) (start .slots) (start .mode) (asked l) =
+      told-after first nothing l (leads .follow) ∙ ap (λ (s : State). after (runAt s nothing) (asked l)) begins in
+      let rulesAccept = sym (ap (λ (o : Outcome). o .answer) (setUp .given)) ∙ setUp .accepted in
+      let whole : RunClaim r = subst RunClaim (sym ruled) (demand-3 (start .pages) (start .slots) (start .mode) rulesAccept (asked l)) in
+      let sound : Sound (stateOf last) = subst Sound (sym now) (whole .sound) in
+      let its : c ≡ receiptRule (r .now) = receipt ∙ ap receiptRule now in
+      record {
+        now = now;
+        demand = subst (λ (c : Receipt). Claim c r) (sym its) (whole .demand);
+        complete = subst (λ (c : Receipt). CompleteClaim c r) (sym its) (whole .complete);
+        shape = sound .shape;
+        unbroken = λ a s gives e. sound .unbroken a (sym (ap (λ (o : Outcome). o .tells .refusal) gives) ∙ e);
+        receipt = ap (λ (c : Receipt). c .refusal) receipt ∙ sound .receipt;
+      }
+
+  -- a run that began with the single actions `before`, which led to the ring `here`
+  pub calls-claim : (Began : Ring → List Single → Type 0) (here : Ring) (before : List Single) → Began first before → Leads promises first before here → ForCalls promises Began here
+  calls-claim Began here before began leads calls follows c receipt =
+      let s = calls-singly here calls follows in
+      record {
+        first = first;
+        setUp = start;
+        before = before;
+        began = began;
+        leads = leads;
+        singles = s .singles;
+        are = s .are;
+        claim = singles-claim (before ++ s .singles) (lastBack here calls) (leads-append first before (s .singles) leads (s .leads)) c receipt;
+      }
