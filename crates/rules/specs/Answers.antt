@@ -31,6 +31,9 @@ pub record Told : Type 0 where
 abbrev pub says : List ℕ → Told
 says values = record { refusal = 0; values = values }
 
+abbrev pub refuses : Refusal → Told
+refuses why = record { refusal = refusalNumber why; values = [] }
+
 abbrev pub told : Answer → Told
 told Accepted = says []
 told (Begun depth) = says (depth ∷ [])
@@ -55,7 +58,7 @@ told Busy = says []
 told Prepared = says []
 told Swapped = says []
 told Missed = says []
-told (Refused why) = record { refusal = refusalNumber why; values = [] }
+told (Refused why) = refuses why
 
 -- "Each action takes a ring and gives the ring back, with an answer": these two, and what the answer tells.
 pub record Outcome : Type 0 where

@@ -12,7 +12,7 @@ use Rattle.rules.specs.Shape.{sizeFits}
 use Rattle.rules.specs.Actions.{Decoded, decodedFrom, actionBytes, encoded}
 use Rattle.rules.specs.Replay.{numbersPerAnswer, over, ranBuffer, bufferFits}
 use Rattle.trace.specs.Header.{mostLength, markEnd, versionEnd, firstAction, plainByte, headerOf}
-use Rattle.trace.specs.Replays.{walkPlace, walkBytes, walkActions, walked, headerRing, replayedFrom, bufferFrom}
+use Rattle.trace.specs.Replays.{walkPlace, walkActions, walked, headerRing, replayedFrom, bufferFrom}
 use Rattle.trace.specs.Encode.{headerBytes, put, kept, placeFor, headerPlace, actionPlace}
 use Rattle.trace.specs.Trace.{ValuesFit, traceOf, Written, writtenFrom, written, ReadBack, WrittenOut, ReplayedBack, RoundTrip}
 use Rattle.rules.specs.declared.state.Action.{Action}
@@ -23,7 +23,6 @@ use Rattle.trace.specs.declared.parts.Put.the-variants.{At, Refused}
 use Rattle.ring.proofs.replay.Laws.{over-length}
 use Rattle.trace.proofs.Actions.{decoded-encoded}
 use Rattle.trace.proofs.encode.Laws.{small, placed, header-placed}
-use Rattle.trace.proofs.walk.Laws.{buffer-enough}
 
 -- ---- reading
 
@@ -136,7 +135,7 @@ module _ (pages slots mode : ℕ) (actions : List Action) (out : List ℕ) where
 
 -- ---- the replay of what was written
 
-module _ (pages slots mode : ℕ) (actions : List Action) (buffer : List ℕ) (back : ReadBack pages slots mode actions) (fits : numbersPerAnswer * length (encoded actions) ≤ length buffer) where
+module _ (pages slots mode : ℕ) (actions : List Action) (buffer : List ℕ) (back : ReadBack pages slots mode actions) (fits : numbersPerAnswer * length actions ≤ length buffer) where
   abbrev bytes : List ℕ
   bytes = traceOf pages slots mode actions
 
@@ -148,16 +147,16 @@ module _ (pages slots mode : ℕ) (actions : List Action) (buffer : List ℕ) (b
       let n = trace-length in
       rw (le-ltb (length bytes) firstAction (omega arith))
 
-  enough : bufferFits (walkBytes bytes firstAction) buffer ≡ true
-  enough =
-      let n = trace-length in
-      buffer-enough bytes buffer firstAction firstAction (sym place) (omega arith)
+  all : walkActions bytes firstAction ≡ record { actions = actions; stop = length bytes }
+  all = ap (decodedFrom bytes) place ∙ back .then
+
+  enough : bufferFits (walkActions bytes firstAction) (length buffer) ≡ true
+  enough = ap (λ (d : Decoded). bufferFits d (length buffer)) all ∙ le-leb (numbersPerAnswer * length actions) (length buffer) fits
 
   replayed-back : ReplayedBack pages slots mode actions buffer
   unfolding replayedFrom bufferFrom
   replayed-back =
       let r = headerRing pages slots mode in
-      let all : walkActions bytes firstAction ≡ record { actions = actions; stop = length bytes } = ap (decodedFrom bytes) place ∙ back .then in
       record {
         replays = rw (back .header, enough) (ap (walked (length bytes) r) all ∙ rw (eq-eqb (length bytes) (length bytes) refl));
         answers = rw (back .header, enough) (ap (λ (d : Decoded). ranBuffer r d buffer) all);

@@ -7,6 +7,7 @@ use lib.Dec.{ltb}
 use lib.ListN.{length, take, drop}
 use Rattle.rules.specs.Lists.{first}
 use Rattle.rules.specs.State.{sizeOf}
+use Rattle.rules.specs.Answers.{Told, says, refuses}
 use Rattle.rules.specs.Shape.{sizeFits}
 use Rattle.rules.specs.Actions.{actionBytes}
 use Rattle.trace.specs.Header.{mostLength, letterP, letterT, letterR, version, firstAction}
@@ -28,6 +29,18 @@ abbrev pub kept : Put → List ℕ → List ℕ → List ℕ
 kept (At next) new old = new
 kept (Refused why) new old = old
 
+-- what a call gives: the place after what was put, or a refusal; and what that tells: the place, or the refusal's number
+pub record PutOutcome : Type 0 where
+  pub place : Put
+  pub tells : Told
+
+abbrev pub toldPut : Put → Told
+toldPut (At next) = says (next ∷ [])
+toldPut (Refused why) = refuses why
+
+abbrev pub putGives : Put → PutOutcome
+putGives p = record { place = p; tells = toldPut p }
+
 -- the place after so many bytes from a place on: refused with 6 where the trace would be "longer than that", then with 10 where the bytes lent are too few
 abbrev pub placeFor : ℕ → ℕ → ℕ → Put
 placeFor capacity at count =
@@ -46,12 +59,18 @@ headerPlace capacity pages slots mode =
     ∷ [])
     (At firstAction)
 
+abbrev pub putHeaderRule : ℕ → ℕ → ℕ → ℕ → PutOutcome
+putHeaderRule capacity pages slots mode = putGives (headerPlace capacity pages slots mode)
+
 abbrev pub headerPut : List ℕ → ℕ → ℕ → ℕ → List ℕ
 headerPut out pages slots mode = kept (headerPlace (length out) pages slots mode) (put (headerBytes pages slots mode) 0 out) out
 
 -- an action
 abbrev pub actionPlace : ℕ → ℕ → Action → Put
 actionPlace capacity at a = placeFor capacity at (length (actionBytes a))
+
+abbrev pub putActionRule : ℕ → ℕ → Action → PutOutcome
+putActionRule capacity at a = putGives (actionPlace capacity at a)
 
 abbrev pub actionPut : List ℕ → ℕ → Action → List ℕ
 actionPut out at a = kept (actionPlace (length out) at a) (put (actionBytes a) at out) out

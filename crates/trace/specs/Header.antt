@@ -9,6 +9,7 @@ use lib.ListN.{length}
 use Rattle.rules.specs.Limits.{plainMode}
 use Rattle.rules.specs.Lists.{first, every}
 use Rattle.rules.specs.State.{sizeOf}
+use Rattle.rules.specs.Answers.{Told, says, refuses}
 use Rattle.rules.specs.Shape.{sizeFits}
 use Rattle.rules.specs.Actions.{byteAt}
 use Rattle.rules.specs.declared.state.Refusal.the-variants.{Mark, Version, Sizes}
@@ -103,3 +104,18 @@ headerRows bytes =
 
 abbrev pub headerOf : List ℕ → Header
 headerOf bytes = first (headerRows bytes) (setUpIn bytes)
+
+-- what the header says, and what that tells: N, S and the mode that the ring gets, or the refusal's number
+pub record HeaderOutcome : Type 0 where
+  pub header : Header
+  pub tells : Told
+
+abbrev pub toldHeader : Header → Told
+toldHeader (Ready pages slots mode) = says (pages ∷ slots ∷ mode ∷ [])
+toldHeader (Refused why) = refuses why
+
+abbrev pub headerGives : Header → HeaderOutcome
+headerGives h = record { header = h; tells = toldHeader h }
+
+abbrev pub headerRule : List ℕ → HeaderOutcome
+headerRule bytes = headerGives (headerOf bytes)

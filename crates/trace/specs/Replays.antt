@@ -46,11 +46,12 @@ toldFrom len from run = replayWith (run .state) (wholeTo len (from + run .stop))
 abbrev pub headerRing : ℕ → ℕ → ℕ → State
 headerRing pages slots mode = freshRing (sizeOf pages slots mode)
 
--- by what the header says: a refusal, with the plain ring; or the actions on its ring, where the buffer lent has a place for an answer to each byte
+-- by what the header says: a refusal, with the plain ring; or the actions on its ring, where the buffer lent has a place for the answer of each, and else 10. So the order is 6,
+-- 7, 8, 10, 9: where answers have no place no action is made, and 9 is told with the ring that the actions before it leave
 abbrev pub replayedBy : Header → List ℕ → ℕ → List ℕ → ReplayOutcome
 replayedBy (Refused why) bytes at buffer = refusedReplay why
 replayedBy (Ready pages slots mode) bytes at buffer =
-    cond (bufferFits (walkBytes bytes at) buffer)
+    cond (bufferFits (walkActions bytes at) (length buffer))
     (walked (length bytes) (headerRing pages slots mode) (walkActions bytes at))
     (refusedReplay refusal.Room)
 
@@ -58,7 +59,7 @@ replayedBy (Ready pages slots mode) bytes at buffer =
 abbrev pub bufferBy : Header → List ℕ → ℕ → List ℕ → List ℕ
 bufferBy (Refused why) bytes at buffer = buffer
 bufferBy (Ready pages slots mode) bytes at buffer =
-    cond (bufferFits (walkBytes bytes at) buffer) (ranBuffer (headerRing pages slots mode) (walkActions bytes at) buffer) buffer
+    cond (bufferFits (walkActions bytes at) (length buffer)) (ranBuffer (headerRing pages slots mode) (walkActions bytes at) buffer) buffer
 
 unfoldable pub replayedFrom : List ℕ → ℕ → List ℕ → ReplayOutcome
 replayedFrom bytes at buffer = replayedBy (headerOf bytes) bytes at buffer

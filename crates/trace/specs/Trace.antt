@@ -93,9 +93,9 @@ pub record RoundTrip : Type 0 where
       ValuesFit actions →
       written pages slots mode actions out .place ≡ At end →
       WrittenOut pages slots mode actions out end
-  -- and a trace that is read back is replayed as its actions one by one
+  -- and a trace that is read back is replayed as its actions one by one, where the buffer lent has a place for the answer of each
   pub replayed :
       (pages slots mode : ℕ) (actions : List Action) (buffer : List ℕ) →
       ReadBack pages slots mode actions →
-      numbersPerAnswer * length (encoded actions) ≤ length buffer →
+      numbersPerAnswer * length actions ≤ length buffer →
       ReplayedBack pages slots mode actions buffer

@@ -5,7 +5,7 @@ ghost use mathlib.Core.List.{[], _∷_};
 ghost use lib.ListN.{length};
 ghost use Rattle.rules.specs.Actions.{beginCode, beginLength, valueBytes, actionBytes};
 ghost use Rattle.trace.specs.Header.{firstAction};
-ghost use Rattle.trace.specs.Encode.{headerBytes, put, placeFor, headerPlace, actionPlace, headerPut, actionPut};
+ghost use Rattle.trace.specs.Encode.{headerBytes, put, placeFor, headerPlace, putGives, putHeaderRule, putActionRule, headerPut, actionPut};
 use crate::parts::FIRST_ACTION;
 use crate::parts::HIGH_AT;
 use crate::parts::LOW_AT;
@@ -56,7 +56,7 @@ fn header_place(capacity: usize, pages: u32, slots: u32, mode: u32) -> Put
 
 // The header of a trace. Where it is refused, `out` is left as it was.
 pub fn put_header(out: &mut [u8], pages: u32, slots: u32, mode: u32) -> Put
-    ensures { λ r. ⌜ (r ≡ headerPlace (length (now (out .entry))) pages slots mode) × (now (out .exit) ≡ headerPut (now (out .entry)) pages slots mode) ⌝ }
+    ensures { λ r. ⌜ (putGives r ≡ putHeaderRule (length (now (out .entry))) pages slots mode) × (now (out .exit) ≡ headerPut (now (out .entry)) pages slots mode) ⌝ }
 {
     let place = header_place(out.len(), pages, slots, mode);
     match place {
@@ -129,7 +129,7 @@ fn store_action(out: &mut [u8], at: usize, action: Action)
 
 // An action from `at` on. Where it is refused, `out` is left as it was.
 pub fn put_action(out: &mut [u8], at: usize, action: Action) -> Put
-    ensures { λ r. ⌜ (r ≡ actionPlace (length (now (out .entry))) at action) × (now (out .exit) ≡ actionPut (now (out .entry)) at action) ⌝ }
+    ensures { λ r. ⌜ (putGives r ≡ putActionRule (length (now (out .entry))) at action) × (now (out .exit) ≡ actionPut (now (out .entry)) at action) ⌝ }
 {
     let place = place_for(out.len(), at, length_of(action));
     match place {

@@ -1,6 +1,6 @@
 // The header of a trace: mark, version and set-up.
 ghost use mathlib.Core.Path.{_≡_};
-ghost use Rattle.trace.specs.Header.{marked, versionFits, modeOf, setUp, headerOf};
+ghost use Rattle.trace.specs.Header.{marked, versionFits, modeOf, setUp, headerGives, headerRule};
 use crate::parts::FIRST_ACTION;
 use crate::parts::HIGH_AT;
 use crate::parts::Header;
@@ -69,7 +69,7 @@ fn set_up(pages: u8, slots: u8, mode: u8) -> Header
 
 // What the header says, or the first refusal that applies.
 pub fn header(bytes: &[u8]) -> Header
-    ensures { λ r. ⌜ r ≡ headerOf (now (bytes .entry)) ⌝ }
+    ensures { λ r. ⌜ headerGives r ≡ headerRule (now (bytes .entry)) ⌝ }
 {
     if MOST_LENGTH < bytes.len() {
         return Header::Refused(Refusal::Mark);

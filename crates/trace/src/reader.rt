@@ -54,8 +54,8 @@ impl<'a> TraceReader<'a> {
 }
 
 // A whole trace, by a reader that keeps hold of its bytes: its header, and the actions from the first one on. Refused with MARK, VERSION or SIZES for
-// its header, then with ROOM where `answers` has no place for an answer to each byte after it, with the plain ring each; and with ACTION at an action
-// that is unknown or cut, whose offset is `stop`, with the ring after the last whole one.
+// its header, then with ROOM where `answers` has no place for the answer of each action, with the plain ring each; and with ACTION at an action that is
+// unknown or cut, whose offset is `stop`, with the ring after the last whole one.
 pub fn replay(bytes: &[u8], answers: &mut [u64]) -> Replay
     ensures { λ r. ⌜ (replayOutcome r ≡ replayedFrom (now (bytes .entry)) firstAction (now (answers .entry))) × (now (answers .exit) ≡ bufferFrom (now (bytes .entry)) firstAction (now (answers .entry))) ⌝ }
 {

@@ -9,7 +9,6 @@ use ring::Answer;
 use ring::Refusal;
 use ring::Replay;
 use ring::Ring;
-use ring::replay::NUMBERS_PER_ANSWER;
 use ring::replay::refused_replay;
 
 // Where a walk begins: a place past the end is the end.
@@ -39,8 +38,7 @@ fn told_from(run: Replay, length: usize, from: usize) -> Replay
     }
 }
 
-// The header, then the actions from `at` on, on the fresh ring that the header says. The buffer is tested here too, so that its refusal is not told as one
-// of an action.
+// The header, then the actions from `at` on, on the fresh ring that the header says. A buffer that is too short is refused as it is: no action was made.
 pub(crate) fn replay_from(bytes: &[u8], at: usize, answers: &mut [u64]) -> Replay
     ensures { λ r. ⌜ (replayOutcome r ≡ replayedFrom (now (bytes .entry)) at (now (answers .entry))) × (now (answers .exit) ≡ bufferFrom (now (bytes .entry)) at (now (answers .entry))) ⌝ }
 {
@@ -49,11 +47,12 @@ pub(crate) fn replay_from(bytes: &[u8], at: usize, answers: &mut [u64]) -> Repla
         Header::Refused(why) => refused_replay(why),
         Header::Ready(pages, slots, mode) => {
             let from = walk_place(bytes.len(), at);
-            if answers.len() / NUMBERS_PER_ANSWER < bytes.len() - from {
-                return refused_replay(Refusal::Room);
-            }
             let run = Ring::replay(pages, slots, mode, &bytes[from..], answers);
-            told_from(run, bytes.len(), from)
+            let answer = run.answer;
+            if let Answer::Accepted = answer {
+                return told_from(run, bytes.len(), from);
+            }
+            run
         }
     }
 }

@@ -1,12 +1,12 @@
--- Where a walk begins is within the bytes; the set-up of a header that is not refused is one that a ring accepts; the test of the buffer, as the code makes it; and where a
+-- Where a walk begins is within the bytes; the set-up of a header that is not refused is one that a ring accepts; what a run says of the buffer; and where a
 -- replay ends, `nine-right`: a refusal 9 stands at an unknown or cut action.
 -- Assumes nothing.
 use mathlib.Core.Path.{_≡_, refl, sym, ap, _∙_, subst}
-use mathlib.Core.Bool.{Bool, true, false, not}
+use mathlib.Core.Bool.{Bool, true, false}
 use mathlib.Core.List.{List, [], _∷_}
-use Prim.Native.Nat.{ℕ, _+_, _-_, _/_, _≤_, _<_}
+use Prim.Native.Nat.{ℕ, _+_, _-_, _≤_}
 use native.Mathlib.Omega.{arith}
-use borrow.Author.Tests.{lt-ltb, le-ltb, ltb-false, eq-eqb, ne-eqb}
+use borrow.Author.Tests.{ltb-false, eq-eqb, ne-eqb}
 use lib.Dec.{eqb, ltb}
 use lib.ListN.{length, take, drop, length-drop}
 use lib.Seq.{take-all}
@@ -14,7 +14,7 @@ use Rattle.rules.specs.Lists.{first}
 use Rattle.rules.specs.State.{sizeOf, State}
 use Rattle.rules.specs.Shape.{sizeFits}
 use Rattle.rules.specs.Actions.{Decoded, byteAt, decoded, Decodes}
-use Rattle.rules.specs.Replay.{numbersPerAnswer, ranBuffer, bufferFits, bufferRule, refusedReplay, ran, replayRule, ReplayOutcome}
+use Rattle.rules.specs.Replay.{ranBuffer, bufferFits, bufferRule, refusedReplay, ran, replayRule, ReplayOutcome}
 use Rattle.trace.specs.Header.{modeOf, setUp, pagesAt, slotsAt, modeAt, setUpIn, headerRows, headerOf}
 use Rattle.trace.specs.Replays.{walkPlace, walkBytes, walkActions, wholeTo, walked, headerRing, replayedBy, replayedFrom, NineRight}
 use Rattle.rules.specs.declared.state.Refusal.{Refusal}
@@ -22,7 +22,7 @@ use Rattle.rules.specs.declared.state.Refusal.the-variants as refusal
 use Rattle.rules.specs.declared.state.Answer.the-variants as answer
 use Rattle.trace.specs.declared.parts.Header.{Header}
 use Rattle.trace.specs.declared.parts.Header.the-variants.{Ready, Refused}
-use Rattle.rules.proofs.Lists.{by-cond, by-eq}
+use Rattle.rules.proofs.Lists.{by-bool, by-cond, by-eq}
 use Rattle.rules.proofs.actions.Laws.{stop-within, decodes}
 use Rattle.rules.proofs.actions.Shift.{shifted, decoded-drop}
 
@@ -72,18 +72,9 @@ header-accepts bytes =
 pub ready-fits : (bytes : List ℕ) {pages slots mode : ℕ} → headerOf bytes ≡ Ready pages slots mode → sizeFits (sizeOf pages slots mode) ≡ true
 ready-fits bytes e = subst Accepts e (header-accepts bytes)
 
--- ---- the buffer, for a walk that begins at `from`
+-- ---- a walk that begins at `from`
 
-module _ (bytes buffer : List ℕ) (at from : ℕ) (e : from ≡ walkPlace (length bytes) at) where
-  walk-length : length (walkBytes bytes at) ≡ length bytes - from
-  walk-length = length-drop (walkPlace (length bytes) at) bytes ∙ ap (λ (k : ℕ). length bytes - k) (sym e)
-
-  pub buffer-short : length buffer / numbersPerAnswer < length bytes - from → bufferFits (walkBytes bytes at) buffer ≡ false
-  buffer-short l = ap not (lt-ltb (length buffer / numbersPerAnswer) (length (walkBytes bytes at)) (rw walk-length l))
-
-  pub buffer-enough : length bytes - from ≤ length buffer / numbersPerAnswer → bufferFits (walkBytes bytes at) buffer ≡ true
-  buffer-enough l = ap not (le-ltb (length buffer / numbersPerAnswer) (length (walkBytes bytes at)) (rw walk-length l))
-
+module _ (bytes : List ℕ) (at from : ℕ) (e : from ≡ walkPlace (length bytes) at) where
   -- the part of the bytes that the code passes on
   pub walk-part : take (length bytes - from) (drop from bytes) ≡ walkBytes bytes at
   walk-part = take-all (length bytes - from) (drop from bytes) (rw length-drop (omega arith)) ∙ ap (λ (k : ℕ). drop k bytes) e
@@ -93,6 +84,10 @@ module _ (bytes buffer : List ℕ) (at from : ℕ) (e : from ≡ walkPlace (leng
   walk-same =
       decoded-drop bytes (walkPlace (length bytes) at) (place-within (length bytes) at)
       ∙ ap (λ (k : ℕ). shifted k (decoded (walkBytes bytes at))) (sym e)
+
+  -- there are as many
+  pub walk-fits : (room : ℕ) → bufferFits (walkActions bytes at) room ≡ bufferFits (decoded (walkBytes bytes at)) room
+  walk-fits room = ap (λ (d : Decoded). bufferFits d room) walk-same
 
   -- and they stop at one of their places
   pub walk-stop : from + decoded (walkBytes bytes at) .stop ≤ length bytes
@@ -144,7 +139,7 @@ module _ (bytes : List ℕ) (at : ℕ) where
   by-right : (buffer : List ℕ) (h : Header) → Accepts h → NineRight bytes (replayedBy h bytes at buffer)
   by-right buffer (Refused why) ok = refused-right why (refusedReplay why) (header-not-action why ok) refl
   by-right buffer (Ready pages slots mode) ok =
-      by-cond (NineRight bytes) (bufferFits (walkBytes bytes at) buffer)
+      by-cond (NineRight bytes) (bufferFits (walkActions bytes at) (length buffer))
       (λ e. walked-right (headerRing pages slots mode))
       (λ e. refused-right refusal.Room (refusedReplay refusal.Room) room-not-action refl)
 
@@ -152,11 +147,32 @@ module _ (bytes : List ℕ) (at : ℕ) where
   unfolding replayedFrom
   nine-right buffer = by-right buffer (headerOf bytes) (header-accepts bytes)
 
--- ---- a run whose set-up and buffer are as they should be
+-- ---- a run whose set-up is as it should be: its answer tells whether the buffer was long enough
 
-module _ (pages slots mode : ℕ) (bytes buffer : List ℕ) (fits : sizeFits (sizeOf pages slots mode) ≡ true) (enough : bufferFits bytes buffer ≡ true) where
-  pub rule-runs : replayRule pages slots mode bytes buffer ≡ ran (headerRing pages slots mode) (decoded bytes)
-  rule-runs = rw (fits, enough)
+module _ (pages slots mode : ℕ) (bytes buffer : List ℕ) (fits : sizeFits (sizeOf pages slots mode) ≡ true) where
+  pub rule-runs : bufferFits (decoded bytes) (length buffer) ≡ true → replayRule pages slots mode bytes buffer ≡ ran (headerRing pages slots mode) (decoded bytes)
+  rule-runs enough = rw (fits, enough)
 
-  pub rule-fills : bufferRule pages slots mode bytes buffer ≡ ranBuffer (headerRing pages slots mode) (decoded bytes) buffer
-  rule-fills = rw (fits, enough)
+  pub rule-fills : bufferFits (decoded bytes) (length buffer) ≡ true → bufferRule pages slots mode bytes buffer ≡ ranBuffer (headerRing pages slots mode) (decoded bytes) buffer
+  rule-fills enough = rw (fits, enough)
+
+  pub rule-short : bufferFits (decoded bytes) (length buffer) ≡ false → replayRule pages slots mode bytes buffer ≡ refusedReplay refusal.Room
+  rule-short short = rw (fits, short)
+
+  pub rule-keeps : bufferFits (decoded bytes) (length buffer) ≡ false → bufferRule pages slots mode bytes buffer ≡ buffer
+  rule-keeps short = rw (fits, short)
+
+  pub accepted-fits : replayRule pages slots mode bytes buffer .answer ≡ answer.Accepted → bufferFits (decoded bytes) (length buffer) ≡ true
+  accepted-fits e =
+      by-bool (bufferFits (decoded bytes) (length buffer))
+      (λ enough. enough)
+      (λ short.
+      let refused : answer.Refused refusal.Room ≡ answer.Accepted = rw (fits, short) at e in
+      let z : _≡_ {A = ℕ} 0 1 = cc in
+      absurd (omega arith))
+
+  pub refused-short : (replayRule pages slots mode bytes buffer .answer ≡ answer.Accepted → ⊥) → bufferFits (decoded bytes) (length buffer) ≡ false
+  refused-short n =
+      by-bool (bufferFits (decoded bytes) (length buffer))
+      (λ enough. absurd (n (rw (fits, enough) refl)))
+      (λ short. short)

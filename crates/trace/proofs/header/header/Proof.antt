@@ -1,6 +1,8 @@
 -- `header::header` is the definition, by its tests in order. Assumes nothing.
+use mathlib.Core.Path.{ap}
 use borrow.Author.Needs.{needs}
 use borrow.Author.Tests.{lt-ltb, le-ltb}
+use Rattle.trace.specs.Header.{headerGives}
 use Rattle.trace.proofs.header.header.Statement.{statement}
 use Rattle.trace.proofs.header.header.Tie as tie
 
@@ -42,7 +44,7 @@ returns-5 c =
       tested .before .if3 .left,
       le-ltb _ _ (tested .if4 .left),
     )
-    (c .set-up .ensures)
+    (ap headerGives (c .set-up .ensures))
 
 pub header-spec : {M : Type 1} → statement M
 header-spec =
