@@ -3,3 +3,4 @@ pub mod Header
 pub mod Replays
 pub mod Encode
 pub mod Trace
+pub mod Runs

@@ -111,6 +111,16 @@ module _ (bytes : List ℕ) (at : ℕ) where
         whole = λ h. let z : _≡_ {A = ℕ} 0 1 = cc in absurd (omega arith);
       }
 
+  room-not-action : refusal.Room ≡ refusal.Action → ⊥
+  room-not-action e = let z : _≡_ {A = ℕ} 0 1 = cc in omega arith
+
+  -- a walk is not refused with 10
+  pub walked-not-room : (r : State) → walked (length bytes) r d .answer ≡ answer.Refused refusal.Room → ⊥
+  walked-not-room r e =
+      by-bool (eqb (d .stop) (length bytes))
+      (λ t. let q : answer.Accepted ≡ answer.Refused refusal.Room = rw t at e in let z : _≡_ {A = ℕ} 0 1 = cc in omega arith)
+      (λ f. let q : answer.Refused refusal.Action ≡ answer.Refused refusal.Room = rw f at e in room-not-action cc)
+
   walked-right : (r : State) → NineRight bytes (walked (length bytes) r d)
   walked-right r =
       record {
@@ -132,9 +142,6 @@ module _ (bytes : List ℕ) (at : ℕ) where
 
   header-not-action : (why : Refusal) → OfHeader why → why ≡ refusal.Action → ⊥
   header-not-action why h e = subst OfHeader e h
-
-  room-not-action : refusal.Room ≡ refusal.Action → ⊥
-  room-not-action e = let z : _≡_ {A = ℕ} 0 1 = cc in omega arith
 
   by-right : (buffer : List ℕ) (h : Header) → Accepts h → NineRight bytes (replayedBy h bytes at buffer)
   by-right buffer (Refused why) ok = refused-right why (refusedReplay why) (header-not-action why ok) refl
