@@ -3,4 +3,5 @@ pub mod Header
 pub mod Replays
 pub mod Encode
 pub mod Trace
+pub mod TraceCases
 pub mod Runs
