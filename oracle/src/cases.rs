@@ -2,10 +2,13 @@
 //! out; the ring is held to it. The other sections of `cases` follow.
 
 use self::Line::{Act, Commit, Committed, Depth, Fresh, Overwritten, ReaderPage, Words};
+use crate::builder::Builder;
+use crate::demand::must;
 use crate::drain;
 use crate::ring::Action::{Begin, Read, Write};
 use crate::ring::{Action, Answer, Receipt, Refusal, Ring};
 use crate::text::{self, LastAnswers, Tally};
+use crate::trace::{self, Reach};
 
 /// A line of a case and what 01 says stands there.
 enum Line {
@@ -185,12 +188,14 @@ pub fn run() -> Result<String, String> {
     section(&mut out, OUT_OF_SHAPE, out_of_shape)?;
     section(&mut out, MANY, many_readings)?;
     section(&mut out, EVENING, drained_evening)?;
+    section(&mut out, LITTLE_ROOM, little_room)?;
     Ok(out)
 }
 
 const OUT_OF_SHAPE: &str = "Out of shape: fresh(2, 1, 0) with its read position set to 2";
 const MANY: &str = "65537 readings in stop mode, each written and then read until Empty";
 const EVENING: &str = "An evening of 65537 readings in stop mode, drained through small buffers";
+const LITTLE_ROOM: &str = "Replays of 13 Begins in little room";
 
 /// A section with its heading; what differs in it is told with the heading.
 fn section<F>(out: &mut String, name: &str, run: F) -> Result<(), String>
@@ -368,7 +373,7 @@ fn until_empty(ring: &mut Ring, tally: &mut Tally, i: u32) -> Result<u64, String
 
 /// "0, 1, 2, 3, 5, 8, 13, 64 in turn".
 const LENGTHS: [usize; 8] = [0, 1, 2, 3, 5, 8, 13, 64];
-/// What an element of the buffer holds before each drain.
+/// What an element of the buffer holds before each drain and each replay.
 const OLD: u64 = u64::MAX;
 
 /// The drains of an evening and what is told of them.
@@ -445,4 +450,62 @@ fn drained_evening(out: &mut String) -> Result<(), String> {
     text::receipt(out, &receipt);
     let all = u64::from(READINGS);
     hold_receipt(&receipt, [all, all, all, 0, 0, 0, 0], true)
+}
+
+/// "13 times `Begin 70` as a trace has it after its header", alone and with a byte 9
+/// after them. Their answers take 39 elements.
+fn little_room(out: &mut String) -> Result<(), String> {
+    let mut builder = Builder::new(2, 1, 0);
+    for _ in 0..13 {
+        builder.act(Begin(70));
+    }
+    let begins = &builder.bytes[builder.starts[0]..];
+    let damaged = &[begins, &[9]].concat()[..];
+    let (refused, accepted) = (Answer::Refused(Refusal::Room), Answer::Accepted);
+    for (bytes, length, due) in [
+        (begins, 0, refused),
+        (begins, 38, refused),
+        (begins, 39, accepted),
+        (begins, 64, accepted),
+        (damaged, 38, refused),
+        (damaged, 39, accepted),
+    ] {
+        replay_lines(out, bytes, length, due, &builder.ring)?;
+    }
+    Ok(())
+}
+
+/// A replay that is lent the first `length` of 64 elements. Where it is accepted, `after`
+/// is the ring that must come of it.
+fn replay_lines(
+    out: &mut String,
+    bytes: &[u8],
+    length: usize,
+    due: Answer,
+    after: &Ring,
+) -> Result<(), String> {
+    let (fresh, _) = Ring::fresh(2, 1, 0);
+    let (mut ring, mut buffer) = (fresh.clone(), [OLD; 64]);
+    let replayed = trace::replay_in_room(bytes, &mut ring, &mut buffer[..length]);
+    let (answer, reach) = match replayed {
+        Ok(reach) => (Answer::Accepted, reach),
+        Err(refusal) => (Answer::Refused(refusal), Reach::default()),
+    };
+    let (made, stop, kept, left) = match due {
+        Answer::Accepted => (13, 65, 64 - 39, after),
+        _ => (0, 0, 64, &fresh),
+    };
+    act_line(out, &format!("room of {length}"), answer, due)?;
+    fact_line(out, "made", reach.made, made)?;
+    fact_line(out, "stop", reach.stop, stop)?;
+    let still = buffer.iter().filter(|&&element| element == OLD).count();
+    fact_line(out, "kept", still, kept)?;
+    must(buffer[..3 * made] == laid()[..3 * made], "other answers")?;
+    must(ring == *left, "not the ring of the actions one by one")
+}
+
+/// The answers of the 13 Begins: Begun(1) to Begun(4), then 2 nine times.
+fn laid() -> Vec<u64> {
+    let begun = [1, 1, 0, 1, 2, 0, 1, 3, 0, 1, 4, 0];
+    [&begun[..], &[24, 0, 0].repeat(9)].concat()
 }

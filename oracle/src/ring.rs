@@ -57,6 +57,8 @@ pub enum Refusal {
     Nobody,
     Worn,
     Setup,
+    /// Not 01's and of no action: lent room is too short (docs/PROGRAMS.md, `cases`).
+    Room,
 }
 
 #[derive(Clone, Copy, Debug, PartialEq)]

@@ -3,7 +3,7 @@
 use crate::ring::{Action, Answer, Receipt, Refusal, Ring};
 
 /// The answers' names in the order of their codes.
-const NAMES: [&str; 28] = [
+const NAMES: [&str; 33] = [
     "Accepted",
     "Begun",
     "Reserved",
@@ -32,6 +32,11 @@ const NAMES: [&str; 28] = [
     "refused 3 NOBODY",
     "refused 4 WORN",
     "refused 5 SETUP",
+    "refused 6 MARK",
+    "refused 7 VERSION",
+    "refused 8 SIZES",
+    "refused 9 ACTION",
+    "refused 10 ROOM",
 ];
 
 /// What each count of a receipt is called and what it is of.
@@ -56,6 +61,7 @@ pub fn refusal_number(refusal: Refusal) -> u32 {
         Refusal::Nobody => 3,
         Refusal::Worn => 4,
         Refusal::Setup => 5,
+        Refusal::Room => 10,
     }
 }
 
@@ -167,9 +173,16 @@ pub fn receipt(out: &mut String, receipt: &Receipt) {
 }
 
 /// How often each kind of answer came.
-#[derive(Default)]
 pub struct Tally {
     times: [u64; NAMES.len()],
+}
+
+impl Default for Tally {
+    fn default() -> Tally {
+        Tally {
+            times: [0; NAMES.len()],
+        }
+    }
 }
 
 impl Tally {

@@ -1,7 +1,7 @@
 //! The trace of request E1 of document 02, in its words, and its replay. What stands
 //! in quotes is E1's.
 
-use crate::ring::{Action, Answer, Ring};
+use crate::ring::{Action, Answer, Refusal, Ring};
 use crate::text;
 
 /// "A file has at most 65,536 bytes."
@@ -124,17 +124,51 @@ pub fn replay_into(
     answers: &mut [u64],
     act: impl Fn(&mut Ring, Action) -> Answer,
 ) -> usize {
-    let Ok((mut ring, actions)) = open(bytes) else {
-        return 0;
-    };
+    match open(bytes) {
+        Ok((mut ring, mut actions)) => walk(&mut actions, &mut ring, answers, act),
+        Err(_) => 0,
+    }
+}
+
+/// Makes actions one by one and lays down their answers; the number of them. Ends with
+/// the actions, or where there is no room for three more numbers.
+#[inline]
+fn walk(
+    actions: &mut Actions<'_>,
+    ring: &mut Ring,
+    answers: &mut [u64],
+    act: impl Fn(&mut Ring, Action) -> Answer,
+) -> usize {
     let mut made = 0;
     for (room, action) in answers.chunks_exact_mut(3).zip(actions) {
-        let answer = act(&mut ring, action);
+        let answer = act(ring, action);
         let (first, second) = text::values(answer);
         room.copy_from_slice(&[text::code(answer), first, second].map(u64::from));
         made += 1;
     }
     made
+}
+
+/// How far a replay in lent room came.
+#[derive(Clone, Copy, Debug, Default, PartialEq)]
+pub struct Reach {
+    /// The number of actions made.
+    pub made: usize,
+    /// The place of the first byte after them.
+    pub stop: usize,
+}
+
+/// The actions of bytes that have no header, "one by one" on a ring, up to the first
+/// that is unknown or cut. Where `room` is too short for all their answers: 10, no
+/// action is made, and nothing is stored.
+pub fn replay_in_room(bytes: &[u8], ring: &mut Ring, room: &mut [u64]) -> Result<Reach, Refusal> {
+    if room.len() < 3 * (Actions { rest: bytes }).count() {
+        return Err(Refusal::Room);
+    }
+    let mut actions = Actions { rest: bytes };
+    let made = walk(&mut actions, ring, room, Ring::act);
+    let stop = bytes.len() - actions.rest.len();
+    Ok(Reach { made, stop })
 }
 
 #[cfg(test)]
@@ -209,5 +243,26 @@ mod tests {
         let mut few = [9; 5];
         assert_eq!(replay_into(&WHOLE, &mut few, Ring::act_in_shape), 1);
         assert_eq!(few, [1, 1, 0, 9, 9]);
+    }
+
+    #[test]
+    fn in_room() {
+        let (fresh, _) = Ring::fresh(2, 1, 0);
+        let bytes = [1, 70, 0, 0, 0, 2, 3, 1, 70];
+        for (length, room, made, stop) in [(9, 9, 3, 7), (9, 10, 3, 7), (6, 6, 2, 6), (4, 0, 0, 0)]
+        {
+            let (mut ring, mut answers) = (fresh.clone(), [9; 10]);
+            let replayed = replay_in_room(&bytes[..length], &mut ring, &mut answers[..room]);
+            assert_eq!(replayed, Ok(Reach { made, stop }), "{length} bytes");
+            let laid = [1, 1, 0, 2, 0, 0, 18, 0, 0];
+            assert_eq!(answers[..3 * made], laid[..3 * made]);
+            assert_eq!(answers[3 * made..], [9; 10][3 * made..]);
+        }
+        for room in 0..9 {
+            let (mut ring, mut answers) = (fresh.clone(), [9; 8]);
+            let replayed = replay_in_room(&bytes, &mut ring, &mut answers[..room]);
+            assert_eq!(replayed, Err(Refusal::Room), "room of {room}");
+            assert_eq!((ring, answers), (fresh.clone(), [9; 8]));
+        }
     }
 }

@@ -92,12 +92,18 @@ pub fn run(dir: &Path) -> Result<String, String> {
 }
 
 /// Answers that no action of a trace gets: the set-up's two; 1, as a ring from a
-/// set-up stays in shape; 4, as no trace has so many Begins.
-const UNREACHED: [&str; 4] = [
+/// set-up stays in shape; 4, as no trace has so many Begins; 6 to 10, which are not
+/// answers to an action.
+const UNREACHED: [&str; 9] = [
     "Accepted",
     "refused 1 SHAPE",
     "refused 4 WORN",
     "refused 5 SETUP",
+    "refused 6 MARK",
+    "refused 7 VERSION",
+    "refused 8 SIZES",
+    "refused 9 ACTION",
+    "refused 10 ROOM",
 ];
 
 impl Files {
