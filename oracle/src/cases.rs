@@ -452,14 +452,17 @@ fn drained_evening(out: &mut String) -> Result<(), String> {
     hold_receipt(&receipt, [all, all, all, 0, 0, 0, 0], true)
 }
 
-/// "13 times `Begin 70` as a trace has it after its header", alone and with a byte 9
+/// "13 times `Begin 16843009` as a trace has it after its header", alone and with a byte 9
 /// after them. Their answers take 39 elements.
 fn little_room(out: &mut String) -> Result<(), String> {
     let mut builder = Builder::new(2, 1, 0);
     for _ in 0..13 {
-        builder.act(Begin(70));
+        builder.act(Begin(16_843_009));
     }
     let begins = &builder.bytes[builder.starts[0]..];
+    if begins != [1; 65] {
+        return Err("the Begins are not 65 bytes 1".to_string());
+    }
     let damaged = &[begins, &[9]].concat()[..];
     let (refused, accepted) = (Answer::Refused(Refusal::Room), Answer::Accepted);
     for (bytes, length, due) in [
@@ -495,7 +498,8 @@ fn replay_lines(
         Answer::Accepted => (13, 65, 64 - 39, after),
         _ => (0, 0, 64, &fresh),
     };
-    act_line(out, &format!("room of {length}"), answer, due)?;
+    let before = if bytes.len() > 65 { "9, " } else { "" };
+    act_line(out, &format!("{before}room of {length}"), answer, due)?;
     fact_line(out, "made", reach.made, made)?;
     fact_line(out, "stop", reach.stop, stop)?;
     let still = buffer.iter().filter(|&&element| element == OLD).count();

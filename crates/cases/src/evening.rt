@@ -10,9 +10,9 @@ use std::num::wrapping_add_u64;
 use text::Tally;
 
 // The buffer's elements before a drain, and how many there are.
-const OLD: u64 = 18446744073709551615;
+pub(crate) const OLD: u64 = 18446744073709551615;
 
-const LENT: usize = 64;
+pub(crate) const LENT: usize = 64;
 
 // A proved loop has to end; at most 256 readings wait here, and these drains take one each.
 const MOST_DRAINS: u32 = 1000;
@@ -80,7 +80,7 @@ pub(crate) fn drain_once(ring: Ring, buffer: &mut [u64], from: u64) -> Seen {
 }
 
 // How many elements from `count` on are as they were.
-fn kept(buffer: &[u64; LENT], count: usize) -> u64 {
+pub(crate) fn kept(buffer: &[u64; LENT], count: usize) -> u64 {
     let mut n: u64 = 0;
     let mut i = count;
     while i < LENT {

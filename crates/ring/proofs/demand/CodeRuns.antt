@@ -42,8 +42,7 @@ code-runs =
       fresh = λ pages slots mode. (stepOf (freshRule pages slots mode), fresh-plain pages slots mode);
       plain = (ringOf plainRing, refl);
       replay = λ pages slots mode bytes buffer.
-          let o = replayRule pages slots mode (now bytes) (now buffer) in
-          (
+          let o = replayRule pages slots mode (now bytes) (now buffer) in (
             record { ring = ringOf (o .state); answer = o .answer; made = o .made; stop = o .stop },
             bufferRule pages slots mode (now bytes) (now buffer),
             (replay-whole pages slots mode (now bytes) (now buffer), refl),
@@ -53,15 +52,13 @@ code-runs =
       read = λ r. (stepOf (readRule (stateOf r)), act-plain (stateOf r) Read);
       act = λ r a. (stepOf (act (stateOf r) a), act-plain (stateOf r) a);
       drainInto = λ r buffer.
-          let d = drainRule (stateOf r) (length (now buffer)) in
-          (
+          let d = drainRule (stateOf r) (length (now buffer)) in (
             drainCount (d .state) (d .last) (length (d .events)),
             bufferAfter d (now buffer),
             (record { state = refl; lastAnswer = refl; tells = drain-tells (stateOf r) (length (now buffer)); count = refl }, refl),
           );
       drain = λ r buffer.
-          let d = drainRule (stateOf r) (length (now buffer)) in
-          (
+          let d = drainRule (stateOf r) (length (now buffer)) in (
             record { part = at-last buffer (d .events); ring = ringOf (d .state); last = d .last },
             record { state = refl; lastAnswer = refl; tells = drain-tells (stateOf r) (length (now buffer)); events = refl; start = refl },
           );
