@@ -18,4 +18,5 @@ replay-cases =
       first = refl;
       before = refl;
       stop = refl;
+      offset = refl;
     }

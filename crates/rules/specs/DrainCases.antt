@@ -23,6 +23,10 @@ twoReadings =
 unfoldable pub commitAhead : State
 commitAhead = withCommitPage (page 2) (freshRing (sizeOf 3 1 overwriteMode))
 
+-- out of shape: commit stands on a page that the ring does not have
+unfoldable pub commitNowhere : State
+commitNowhere = withCommitPage (page 4) (freshRing (sizeOf 3 1 overwriteMode))
+
 pub record DrainCases : Type 0 where
   -- "until ... an answer is Empty"; "Each Event is stored as number × 2^32 + value"
   pub events : drainRule twoReadings 3 .events ≡ 70 ∷ (2 ^ 32 + 71) ∷ []
@@ -31,6 +35,9 @@ pub record DrainCases : Type 0 where
   pub rest : bufferAfter (drainRule twoReadings 3) (7 ∷ 8 ∷ 9 ∷ []) ≡ 70 ∷ (2 ^ 32 + 71) ∷ 9 ∷ []
   -- "until the buffer is full"
   pub full : drainRule twoReadings 1 .last ≡ Given (answer.Event (reading 0) 70)
+  -- what the last answer tells: a number and a value, or a refusal's number
+  pub told : drainRule twoReadings 1 .tells ≡ record { refusal = 0; values = 0 ∷ 70 ∷ [] }
+  pub refused : drainRule commitNowhere 0 .tells ≡ record { refusal = 1; values = [] }
   -- "length 0 means no Read, ... last answer "none""
   pub noRead : drainRule twoReadings 0 .last ≡ None
   -- "or eight Reads in a row have brought none of these and no Event": Found, Prepared, Swapped, the same again, Found, Prepared

@@ -7,9 +7,9 @@ use Prim.Native.Nat.{ℕ}
 use lib.ListN.{length, replicate}
 use Rattle.rules.specs.Limits.{overwriteMode}
 use Rattle.rules.specs.Actions.{encoded}
-use Rattle.rules.specs.Replay.{replayRule, bufferRule, ReplayOutcome}
+use Rattle.rules.specs.Replay.{toldReplay, replayRule, bufferRule, ReplayOutcome}
 use Rattle.rules.specs.declared.state.Action.the-variants.{Begin}
-use Rattle.rules.specs.declared.state.Refusal.the-variants.{SetUp, Room}
+use Rattle.rules.specs.declared.state.Refusal.the-variants.{SetUp, Action, Room}
 use Rattle.rules.specs.declared.state.Answer.the-variants.{Accepted, Refused}
 
 -- thirteen Begins, of which four are accepted and the others refused with 2: "A refused Begin or Write in the trace is an ordinary answer"
@@ -38,3 +38,5 @@ pub record ReplayCases : Type 0 where
   -- an unknown action has no answer: room for the one before it is enough, and the replay stops there
   pub before : onSmall thenUnknown 3 .made ≡ 1
   pub stop : onSmall thenUnknown 3 .stop ≡ 1
+  -- "9 ... with the offset of that action's first byte"
+  pub offset : toldReplay (Refused Action) 9 ≡ record { refusal = 9; values = 9 ∷ [] }
