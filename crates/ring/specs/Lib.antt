@@ -6,5 +6,6 @@ pub mod Turn
 pub mod Replay
 pub mod Drain
 pub mod DrainPart
+pub mod Touches
 pub mod Calls
 pub mod Code
