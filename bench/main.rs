@@ -277,15 +277,25 @@ fn loop_row(name: &'static str, run: fn(u32) -> u64) -> Row {
 
 /// A row of the replay: its answers.
 fn replay_row(name: &'static str, run: fn(&[u8], &mut [u64]) -> usize) -> Row {
+    replay_row_in(name, 3 * trace::LONGEST, run)
+}
+
+/// The same in a buffer of which the first `room` numbers are lent.
+fn replay_row_in(name: &'static str, room: usize, run: fn(&[u8], &mut [u64]) -> usize) -> Row {
     let bytes = loop_trace();
     let mut answers = vec![0; 3 * trace::LONGEST];
     row(name, move || {
         let mut made = 0;
         for _ in 0..TURNS {
-            made += run(black_box(&bytes), black_box(&mut answers));
+            made += run(black_box(&bytes), black_box(&mut answers[..room]));
         }
         (answers.clone(), made)
     })
+}
+
+/// How many numbers the answers of the trace take.
+fn answers_room() -> usize {
+    3 * replay_untested(&loop_trace(), &mut vec![0; 3 * trace::LONGEST])
 }
 
 /// The rows of a drain. Each comes to the buffer with the number filled; the Reads are counted once.
@@ -401,6 +411,7 @@ fn run() -> Result<(), String> {
             replay_row("Rust, in place, no test of shape", replay_untested),
             replay_row("Rust, in place, shape tested", replay_tested),
             replay_row("Rattle, trace::replay", replay_rattle),
+            replay_row_in("Rattle, the same in just enough room", answers_room(), replay_rattle),
         ],
     )?;
     let full = timed("Drain of a full ring", drain_rows(u32::MAX, 20_000))?;
