@@ -1,6 +1,6 @@
--- The calls that a customer makes, each with what it was given and what came back, and the single actions that each is. A call of `begin`, `write`, `read` or `act`
--- is one action; a call of a drain is so many Reads. What the functions may return is a parameter here, `Promises`: proofs/demand/Promises puts in what the checker
--- proves of them.
+-- The calls that a customer makes, each with what it was given and what came back, and the single actions that each is. A call of `begin`, `write`,
+-- `read` or `act` is one action; a call of a drain is so many Reads. What the functions may return is a parameter here, `Promises`:
+-- proofs/demand/Promises puts in what the checker proves of them.
 -- Assumes nothing.
 use mathlib.Core.Path.{_≡_}
 use mathlib.Core.List.{List, [], _∷_, _++_}

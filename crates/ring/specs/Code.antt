@@ -1,6 +1,7 @@
--- Demands 1 and 3 of the code: of whatever the ring's functions may return, in any order of calls. What a call did is told by single actions (specs/Calls), each a step that
--- `Ring::act` may return, and the history is that of these steps' own answers: no rule says what happened. Of the rules are named only the claim (specs/Demand), the table of
--- refusals (specs/Listed), how an answer adds to the history (`recall`), and what answers and actions are as numbers (specs/Replay, specs/Actions).
+-- Demands 1 and 3 of the code: of whatever the ring's functions may return, in any order of calls. What a call did is told by single actions
+-- (specs/Calls), each a step that `Ring::act` may return, and the history is that of these steps' own answers: no rule of an action says what
+-- happened. What is named of the rules is the claim (Demand), how an answer adds to a history (History), the table of refusals (Listed) with the
+-- plain ring, and how actions, answers and events stand in bytes and buffers (Actions, Replay, Drain).
 -- Assumes nothing.
 use mathlib.Core.Path.{_≡_}
 use mathlib.Core.Bool.{true}
@@ -81,7 +82,8 @@ module _ (p : Promises) where
     pub mode : ℕ
     pub setUp : SetUp pages slots mode first
 
-  -- a run: on the ring of an accepted set-up, single actions that `Began` knows of and that lead to the ring `here`, then those of the calls on it; c is the receipt after them
+  -- a run: on the ring of an accepted set-up, single actions that `Began` knows of and that lead to the ring `here`, then those of the calls on it; c
+  -- is the receipt after them
   pub record CallsClaim (Began : Ring → List Single → Type 0) (here : Ring) (calls : List Call) (c : Receipt) : Type 0 where
     pub first : Ring
     pub setUp : AcceptedRing first

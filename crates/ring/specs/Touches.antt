@@ -1,5 +1,6 @@
--- What the code of a function may touch, told off the code itself, its MIR: where it stores, and which functions it calls. A function whose result holds a part of a buffer has no clause about the rest of the
--- buffer (DrainPart); that it stores to its own locals alone, and calls these functions alone, leaves it no way to change an element by itself.
+-- What the code of a function may touch, told off the code itself, its MIR: where it stores, and which functions it calls. A function whose result
+-- holds a part of a buffer has no clause about the rest of the buffer (DrainPart); that it stores to its own locals alone, and calls these functions
+-- alone, leaves it no way to change an element by itself.
 -- Assumes nothing.
 use mathlib.Core.Bool.{Bool, true, false, _&&_}
 use mathlib.Core.List.{List, [], _∷_, _++_}

@@ -122,7 +122,8 @@ pub record NotCommitted (r : Run) (m : ℕ) : Type 0 where
   pub uncommitted : isCommitted (r .past .readings) m ≡ false
   pub slot : OneSlot (LiesAt (r .now) m)
 
--- "of the slots below the used of a ring page, or below the used of the reader page and not below the read position", one that "holds its number with its value"
+-- "of the slots below the used of a ring page, or below the used of the reader page and not below the read position", one that "holds its number with
+-- its value"
 pub record WaitsAt (r : State) (m v : ℕ) (p : PageNo) (j : ℕ) : Type 0 where
   pub lies : LiesAt r m p j
   pub unread : p ≡ r .places .reader → r .places .position ≤ j

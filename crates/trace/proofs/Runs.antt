@@ -1,5 +1,6 @@
--- Demand 3 of a run that begins with the replay of a trace: by what its header says, and whether the answers have a place, the run begins with no action on the plain ring, or with the trace's
--- actions, which are single actions, on the ring of its set-up (the ring's proofs/demand/Start). Assumes nothing.
+-- Demand 3 of a run that begins with the replay of a trace: by what its header says, and whether the answers have a place, the run begins with no
+-- action on the plain ring, or with the trace's actions, which are single actions, on the ring of its set-up (the ring's proofs/demand/Start).
+-- Assumes nothing.
 use mathlib.Core.Path.{_≡_, refl, sym, ap, _∙_}
 use mathlib.Core.List.{List, []}
 use Prim.Native.Nat.{ℕ}

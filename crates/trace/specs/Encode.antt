@@ -1,4 +1,5 @@
--- Writing a trace, so that what a logger writes is what the bench reads: the bytes of the header and of an action, where they stand, and when a call is refused.
+-- Writing a trace, so that what a logger writes is what the bench reads: the bytes of the header and of an action, where they stand, and when a call
+-- is refused.
 -- Assumes nothing.
 use mathlib.Core.Bool.{not}
 use mathlib.Core.List.{List, [], _∷_, _++_}

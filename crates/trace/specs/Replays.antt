@@ -1,5 +1,6 @@
--- The replay of a trace: its header, then the actions from a place on, one by one. Request E1: "9 an unknown or cut action, with the offset of that action's first
--- byte. On 9 the state is that after the last whole action; on the others it is the plain ring. ... Replay equals the actions one by one".
+-- The replay of a trace: its header, then the actions from a place on, one by one. Request E1: "9 an unknown or cut action, with the offset of that
+-- action's first byte. On 9 the state is that after the last whole action; on the others it is the plain ring. ... Replay equals the actions one by
+-- one".
 -- Assumes nothing.
 use mathlib.Core.Path.{_≡_}
 use mathlib.Core.Bool.{cond}
@@ -46,8 +47,9 @@ toldFrom len from run = replayWith (run .state) (wholeTo len (from + run .stop))
 abbrev pub headerRing : ℕ → ℕ → ℕ → State
 headerRing pages slots mode = freshRing (sizeOf pages slots mode)
 
--- by what the header says: a refusal, with the plain ring; or the actions on its ring, where the buffer lent has a place for the answer of each, and else 10. So the order is 6,
--- 7, 8, 10, 9: where answers have no place no action is made, and 9 is told with the ring that the actions before it leave
+-- by what the header says: a refusal, with the plain ring; or the actions on its ring, where the buffer lent has a place for the answer of each, and
+-- else 10. So the order is 6, 7, 8, 10, 9: where answers have no place no action is made, and 9 is told with the ring that the actions before it
+-- leave
 abbrev pub replayedBy : Header → List ℕ → ℕ → List ℕ → ReplayOutcome
 replayedBy (Refused why) bytes at buffer = refusedReplay why
 replayedBy (Ready pages slots mode) bytes at buffer =
@@ -67,7 +69,8 @@ replayedFrom bytes at buffer = replayedBy (headerOf bytes) bytes at buffer
 unfoldable pub bufferFrom : List ℕ → ℕ → List ℕ → List ℕ
 bufferFrom bytes at buffer = bufferBy (headerOf bytes) bytes at buffer
 
--- whatever the bytes are: where a replay is refused with 9, an unknown or cut action stands at its stop; where it is not refused, it made all actions to the end
+-- whatever the bytes are: where a replay is refused with 9, an unknown or cut action stands at its stop; where it is not refused, it made all actions
+-- to the end
 pub record NineRight (bytes : List ℕ) (r : ReplayOutcome) : Type 0 where
   pub nine : r .answer ≡ answer.Refused refusal.Action → codedAt bytes (r .stop) ≡ Broken
   pub whole : r .answer ≡ answer.Accepted → r .stop ≡ length bytes

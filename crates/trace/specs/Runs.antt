@@ -1,6 +1,7 @@
--- Demand 3 of a run that begins with the replay of a trace: `trace::replay`, and then any calls of the ring's methods (the ring's specs/Calls and specs/Code). What the replay did is told by
--- single actions: those of the trace, each a step that `Ring::act` may return, on the ring of the set-up that its header says; its answers, in the buffer, are theirs.
--- What the functions may return are parameters here: proofs/Runs puts in what the checker proves of them.
+-- Demand 3 of a run that begins with the replay of a trace: `trace::replay`, and then any calls of the ring's methods (the ring's specs/Calls and
+-- specs/Code). What the replay did is told by single actions: those of the trace, each a step that `Ring::act` may return, on the ring of the set-up
+-- that its header says; its answers, in the buffer, are theirs. What the functions may return are parameters here: proofs/Runs puts in what the
+-- checker proves of them.
 -- Assumes nothing.
 use mathlib.Core.Path.{_≡_}
 use mathlib.Core.Logic.{_≢_}

@@ -1,5 +1,5 @@
--- Worked traces: what each refusal tells, with its number and, for 9, "the offset of that action's first byte"; and that 10 comes before 9 only where answers have no place.
--- Request E1 has no such cases; these fix by an example each what a caller is told.
+-- Worked traces: what each refusal tells, with its number and, for 9, "the offset of that action's first byte"; and that 10 comes before 9 only where
+-- answers have no place. Request E1 has no such cases; these fix by an example each what a caller is told.
 -- Assumes nothing.
 use mathlib.Core.Path.{_≡_}
 use mathlib.Core.List.{List, [], _∷_, _++_}

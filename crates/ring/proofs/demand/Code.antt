@@ -1,5 +1,5 @@
--- Demands 1 and 3 of the code. Demand 1 is that of the rules (`demand-1`), read off each function's promise. Demand 3: however a run begins (Start), its calls are single actions
--- (Singly), and these are a run of the rules (Runs). That there are such runs: CodeRuns. Assumes nothing.
+-- Demands 1 and 3 of the code. Demand 1 is that of the rules (`demand-1`), read off each function's promise. Demand 3: however a run begins (Start),
+-- its calls are single actions (Singly), and these are a run of the rules (Runs). That there are such runs: CodeRuns. Assumes nothing.
 use mathlib.Core.Path.{refl, ap, _∙_}
 use Rattle.rules.specs.Answers.{Outcome}
 use Rattle.rules.specs.Listed.{listed}

@@ -1,5 +1,5 @@
--- There are runs of the code: whatever is asked, of whichever ring, what the rule gives is something that the function may return. So the hypotheses of `code-demand-3` can be met, by
--- every list of calls. Assumes nothing.
+-- There are runs of the code: whatever is asked, of whichever ring, what the rule gives is something that the function may return. So the hypotheses
+-- of `code-demand-3` can be met, by every list of calls. Assumes nothing.
 use mathlib.Core.Path.{_≡_, refl}
 use mathlib.Core.Bool.{not}
 use mathlib.Core.List.{List}

@@ -1,5 +1,6 @@
--- What callers learn of the ring's functions, as the parameter of specs/Calls: of the parameters, the result, and the parameters again as they are seen at exit. That the
--- functions keep these promises is proved under proofs/state/Ring, not here. Of `Ring::drain`, whose result holds a reference, it is the clause itself (`drain-clause`).
+-- What callers learn of the ring's functions, as the parameter of specs/Calls: of the parameters, the result, and the parameters again as they are
+-- seen at exit. That the functions keep these promises is proved under proofs/state/Ring, not here. Of `Ring::drain`, whose result holds a reference,
+-- it is the clause itself (`drain-clause`).
 -- Assumes nothing.
 use mathlib.Core.Path.{_≡_, refl}
 use mathlib.Core.List.{List, []}

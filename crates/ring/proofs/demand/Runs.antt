@@ -1,5 +1,5 @@
--- Single actions that follow one another from the ring of an accepted set-up are a run of the rules, since each step is the rule's; so the claim of the rules holds of them
--- (`singles-claim`), and of calls, which are single actions (`calls-claim`).
+-- Single actions that follow one another from the ring of an accepted set-up are a run of the rules, since each step is the rule's; so the claim of
+-- the rules holds of them (`singles-claim`), and of calls, which are single actions (`calls-claim`).
 -- Assumes nothing.
 use mathlib.Core.Path.{_≡_, refl, sym, ap, _∙_, subst}
 use mathlib.Core.List.{List, [], _∷_, _++_}

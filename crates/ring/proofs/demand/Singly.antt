@@ -1,5 +1,5 @@
--- Every call is single actions: a call of a method for one action is that action, and a drain is so many Reads, as `drain-singly` of the rules has it. So a list of calls is a
--- list of single actions, call by call, that leads to the ring that the last call gave back.
+-- Every call is single actions: a call of a method for one action is that action, and a drain is so many Reads, as `drain-singly` of the rules has
+-- it. So a list of calls is a list of single actions, call by call, that leads to the ring that the last call gave back.
 -- Assumes nothing.
 use mathlib.Core.Path.{_≡_, refl, sym, ap, _∙_, subst}
 use mathlib.Core.List.{List, [], _∷_, _++_}

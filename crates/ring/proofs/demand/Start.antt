@@ -1,5 +1,5 @@
--- How a run of calls may begin: with a set-up, refused or not, since the plain ring is that of an accepted set-up too; with the plain ring; with a replay, which is single actions on
--- the ring of its set-up, or is refused and gives the plain ring. Assumes nothing.
+-- How a run of calls may begin: with a set-up, refused or not, since the plain ring is that of an accepted set-up too; with the plain ring; with a
+-- replay, which is single actions on the ring of its set-up, or is refused and gives the plain ring. Assumes nothing.
 use mathlib.Core.Path.{_≡_, refl, sym, ap, _∙_, subst}
 use mathlib.Core.Bool.{true, false}
 use mathlib.Core.List.{List, []}

@@ -1,5 +1,5 @@
--- The rules' own steps are steps that the functions may return: so a list of actions on a ring is a list of single actions that follow one another (`makes`), from that ring to
--- the one that the rules reach, with the rules' answers.
+-- The rules' own steps are steps that the functions may return: so a list of actions on a ring is a list of single actions that follow one another
+-- (`makes`), from that ring to the one that the rules reach, with the rules' answers.
 -- Assumes nothing.
 use mathlib.Core.Path.{_≡_, refl, sym, ap, _∙_, subst}
 use mathlib.Core.List.{List, [], _∷_, _++_}

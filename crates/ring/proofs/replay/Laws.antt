@@ -1,5 +1,5 @@
--- What a loop that makes the actions of some bytes keeps: `Progress`. At its start nothing is done; each turn makes one action more, and where no whole action stands
--- all is done that the definition asks. The ring of each turn is in shape, since it is reached from a set-up.
+-- What a loop that makes the actions of some bytes keeps: `Progress`. At its start nothing is done; each turn makes one action more, and where no
+-- whole action stands all is done that the definition asks. The ring of each turn is in shape, since it is reached from a set-up.
 -- Assumes nothing.
 use mathlib.Core.Path.{_≡_, refl, sym, ap, _∙_, subst}
 use mathlib.Core.Bool.{true}
@@ -86,7 +86,8 @@ ends actions stop = record { actions = actions; stop = stop }
 abbrev actionsFirst : List Action → Decoded → Decoded
 actionsFirst done d = ends (done ++ d .actions) (d .stop)
 
--- at place `at`, with `made` actions made: the ring r0 has become r, the buffer buffer0 has become buffer, and what is left of the bytes is what is left to do
+-- at place `at`, with `made` actions made: the ring r0 has become r, the buffer buffer0 has become buffer, and what is left of the bytes is what is
+-- left to do
 pub record Progress (r0 : State) (bytes buffer0 : List ℕ) (r : State) (buffer : List ℕ) (at made : ℕ) : Type 0 where
   pub done : List Action
   pub state : r ≡ stateAfter r0 done

@@ -1,5 +1,6 @@
--- Demand 1: on every state an action and a receipt are refused just as listed, and so is every set-up. The rules of Write and Read answer no refusal, by a look at
--- each rule that may apply; so an action is refused only by its verdict, whose tests are those of the table. And of a ring in shape none is refused with 1.
+-- Demand 1: on every state an action and a receipt are refused just as listed, and so is every set-up. The rules of Write and Read answer no refusal,
+-- by a look at each rule that may apply; so an action is refused only by its verdict, whose tests are those of the table. And of a ring in shape none
+-- is refused with 1.
 -- Assumes nothing.
 use mathlib.Core.Path.{_≡_, refl, sym, _∙_}
 use mathlib.Core.Logic.{_≢_}

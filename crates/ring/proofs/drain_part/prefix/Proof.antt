@@ -1,4 +1,5 @@
--- `ring::drain_part::prefix` meets its contract: the first `count` elements are `count` in number, since `count` is at most their number. And it stores to no element.
+-- `ring::drain_part::prefix` meets its contract: the first `count` elements are `count` in number, since `count` is at most their number. And it
+-- stores to no element.
 -- Assumes nothing.
 use mathlib.Core.Path.{refl, sym}
 use mathlib.Core.List.{[]}

@@ -1,4 +1,5 @@
--- `walk::replay_from` is the definition: by the header, and by the answer of `Ring::replay`, which refuses nothing but the buffer, since the set-up of a header is accepted.
+-- `walk::replay_from` is the definition: by the header, and by the answer of `Ring::replay`, which refuses nothing but the buffer, since the set-up
+-- of a header is accepted.
 -- Assumes nothing.
 use mathlib.Core.Path.{_≡_, sym, ap, _∙_, subst}
 use mathlib.Core.Bool.{true, false}

@@ -1,4 +1,5 @@
--- `Ring::replay` is the rule, by its tests: a set-up that is refused, a buffer that is too short, and else the run from the fresh ring, which is reached by no action.
+-- `Ring::replay` is the rule, by its tests: a set-up that is refused, a buffer that is too short, and else the run from the fresh ring, which is
+-- reached by no action.
 -- Assumes nothing.
 use mathlib.Core.Path.{_≡_, sym, ap, _∙_}
 use mathlib.Core.Bool.{true, false}

@@ -1,5 +1,6 @@
--- `Ring::run` makes the actions of the bytes one by one. The loop keeps `Progress` (proofs/replay/Laws): a turn stores what the action leaves, which is the action, and
--- lays its answer; the ring of each turn is in shape, since it is reached from a set-up. The measure is how many bytes are left. Assumes nothing.
+-- `Ring::run` makes the actions of the bytes one by one. The loop keeps `Progress` (proofs/replay/Laws): a turn stores what the action leaves, which
+-- is the action, and lays its answer; the ring of each turn is in shape, since it is reached from a set-up. The measure is how many bytes are left.
+-- Assumes nothing.
 use mathlib.Core.Path.{_≡_, sym, ap, _∙_}
 use Prim.Native.Nat.{ℕ, _+_, _*_, _^_, _-_, _≤_, _<_}
 use native.Mathlib.Omega.{arith}
