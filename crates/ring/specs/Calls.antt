@@ -8,7 +8,8 @@ use Prim.Native.Nat.{ℕ}
 use lib.ListN.{length, replicate}
 use denote.Ref.{RefT, now}
 use Rattle.rules.specs.Replay.{over}
-use Rattle.rules.specs.Drain.{eventsAmong, lastOf}
+use Rattle.rules.specs.Answers.{told}
+use Rattle.rules.specs.Drain.{toldLast, eventsAmong, lastOf}
 use Rattle.rules.specs.declared.state.Action.{Action}
 use Rattle.rules.specs.declared.state.Action.the-variants as action
 use Rattle.rules.specs.declared.state.Answer.{Answer}
@@ -85,6 +86,15 @@ ringBack (drain buffer d) = d .ring
 abbrev pub lastBack : Ring → List Call → Ring
 lastBack r [] = r
 lastBack r (c ∷ rest) = lastBack (ringBack c) rest
+
+-- the number of the refusal that it gave, 0 for none: that of its answer, and of a drain that of its last answer
+abbrev pub refusalIn : Call → ℕ
+refusalIn (begin v s) = told (s .answer) .refusal
+refusalIn (write s) = told (s .answer) .refusal
+refusalIn (read s) = told (s .answer) .refusal
+refusalIn (act a s) = told (s .answer) .refusal
+refusalIn (drainInto buffer d then) = toldLast (d .last) .refusal
+refusalIn (drain buffer d) = toldLast (d .last) .refusal
 
 -- ---- what a call gave back, in single actions
 

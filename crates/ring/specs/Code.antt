@@ -1,7 +1,8 @@
 -- Demands 1 and 3 of the code: of whatever the ring's functions may return, in any order of calls. What a call did is told by single actions
 -- (specs/Calls), each a step that `Ring::act` may return, and the history is that of these steps' own answers: no rule of an action says what
--- happened. What is named of the rules is the claim (Demand), how an answer adds to a history (History), the table of refusals (Listed) with the
--- plain ring, and how actions, answers and events stand in bytes and buffers (Actions, Replay, Drain).
+-- happened. What is named of the rules is the claim (Demand), how an answer adds to a history (History), what an answer tells (Answers), in shape
+-- (Shape), the table of refusals (Listed) with the plain ring, and how actions, answers and events stand in bytes and buffers (Actions, Replay,
+-- Drain).
 -- Assumes nothing.
 use mathlib.Core.Path.{_≡_}
 use mathlib.Core.Bool.{true}
@@ -19,7 +20,7 @@ use Rattle.rules.specs.Demand.{Claim, CompleteClaim}
 use Rattle.rules.specs.Actions.{decoded}
 use Rattle.rules.specs.Replay.{laid, over}
 use Rattle.ring.specs.Ring.{stateOf}
-use Rattle.ring.specs.Calls.{Promises, Single, asked, answered, Call, lastBack, Follow, Leads, Singles}
+use Rattle.ring.specs.Calls.{Promises, Single, asked, answered, Call, lastBack, refusalIn, Gives, Follow, Leads, Singles}
 use Rattle.rules.specs.declared.state.Action.{Action}
 use Rattle.rules.specs.declared.state.Action.the-variants as action
 use Rattle.rules.specs.declared.state.Answer.the-variants.{Accepted}
@@ -39,6 +40,10 @@ runTold r (x ∷ rest) =
 
 abbrev pub runFrom : Ring → List Single → Run
 runFrom first l = runTold (runAt (stateOf first) nothing) l
+
+-- a run may begin with no action
+abbrev pub NoAction : Ring → List Single → Type 0
+NoAction first l = l ≡ []
 
 -- the number of a refusal, and the same ring with it
 pub record StepAsListed (r : Ring) (number : ℕ) (s : Step) : Type 0 where
@@ -60,13 +65,13 @@ module _ (p : Promises) where
 
   -- ---- demand 3
 
-  -- the whole claim of the rules' specs/Demand, of the ring that the last call gave back, the receipt c of it, and whatever action comes next
+  -- the whole claim of the rules' specs/Demand, of the ring that the last call gave back, the receipt c of it, and whatever call comes next
   pub record CodeClaim (last : Ring) (c : Receipt) (r : Run) : Type 0 where
     pub now : stateOf last ≡ r .now
     pub demand : Claim c r
     pub complete : CompleteClaim c r
     pub shape : inShape (stateOf last) ≡ true
-    pub unbroken : (a : Action) (s : Step) → p .act last a s → told (s .answer) .refusal ≢ 1
+    pub unbroken : (next : Call) → Gives p last next → refusalIn next ≢ 1
     pub receipt : c .refusal ≡ 0
 
   -- "It starts from the ring that an accepted set-up gives"
@@ -98,11 +103,7 @@ module _ (p : Promises) where
   abbrev pub ForCalls : (Ring → List Single → Type 0) → Ring → Type 0
   ForCalls Began here = (calls : List Call) → Follow p here calls → (c : Receipt) → p .receipt (lastBack here calls) c → CallsClaim Began here calls c
 
-  -- how a run may begin: with no action
-  abbrev pub NoAction : Ring → List Single → Type 0
-  NoAction first l = l ≡ []
-
-  -- .. or with those of a replay: its answers, in the buffer, are theirs
+  -- a run may begin with the actions of a replay: its answers, in the buffer, are theirs
   pub record Replayed (pages slots mode : ℕ) (bytes buffer : RefT (List ℕ)) (r : Replay) (then : List ℕ) (first : Ring) (l : List Single) : Type 0 where
     pub made : r .made ≡ length l
     pub answers : then ≡ over (laid (answered l)) (now buffer)

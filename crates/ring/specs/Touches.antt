@@ -1,11 +1,12 @@
--- What the code of a function may touch, told off the code itself, its MIR: where it stores, and which functions it calls. A function whose result
--- holds a part of a buffer has no clause about the rest of the buffer (DrainPart); that it stores to its own locals alone, and calls these functions
--- alone, leaves it no way to change an element by itself.
+-- What the code of `Ring::drain` does to the buffer, told off the code itself, its MIR. The result of `drain` holds a part of the buffer, so that no
+-- clause of its contract can speak of the rest (DrainPart). So it is stated of the code: `drain` begins by lending the whole buffer again and calling
+-- `drain_into` with its own ring and that; what follows stores to its own locals alone and calls `prefix` alone, once; and `prefix` stores to its own
+-- locals alone and calls nothing. That the rest of the buffer is then as the promise of `drain_into` has it is for a reader to conclude.
 -- Assumes nothing.
 use mathlib.Core.Bool.{Bool, true, false, _&&_}
 use mathlib.Core.List.{List, [], _∷_, _++_}
 use mathlib.Core.Path.{_≡_}
-use mir.Syntax.{Step, deref, field, variant, Place, place, Name, Body, skip, seq, assign, block, loop, cond, switch, exit, return, call, Arms, arm, default, noDefault, Fn}
+use mir.Syntax.{w64, tyInt, Step, deref, field, variant, Place, place, copy, addrOf, aggregate, Name, Body, skip, seq, assign, block, loop, cond, switch, exit, return, call, Arms, arm, default, noDefault, Fn}
 
 -- a place that is a local or a part of one, and not behind a reference
 abbrev pub noDeref : List Step → Bool
@@ -55,6 +56,20 @@ abbrev mutual
   armsCall (default b) = callsIn b
   armsCall noDefault = []
 
-pub record Touches (called : List Name) (f : Fn) : Type 0 where
-  pub stores : storesLocally (f .body) ≡ true
-  pub calls : callsIn (f .body) ≡ called
+-- a body that stores to locals alone, and makes these calls
+pub record Touches (called : List Name) (b : Body) : Type 0 where
+  pub stores : storesLocally b ≡ true
+  pub calls : callsIn b ≡ called
+
+-- `drain` has `self` in local 1 and the buffer, a pointer and a length, in local 2: the buffer is lent again in locals 5 and 6, and `drain_into` is
+-- called with local 1 and this
+abbrev pub drainsFirst : Name → Body → Body
+drainsFirst into rest =
+    seq (assign (place 5 []) (addrOf (place 2 (field 0 ∷ deref (tyInt w64) ∷ []))))
+    (seq (assign (place 6 []) (aggregate (copy (place 5 []) ∷ copy (place 2 (field 1 ∷ [])) ∷ [])))
+    (seq (call into (copy (place 1 []) ∷ copy (place 6 []) ∷ []) (place 3 [])) rest))
+
+pub record DrainsOnce (into prefix : Name) (drain : Fn) : Type 0 where
+  pub rest : Body
+  pub first : drain .body ≡ drainsFirst into rest
+  pub then : Touches (prefix ∷ []) rest

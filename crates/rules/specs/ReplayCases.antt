@@ -39,4 +39,4 @@ pub record ReplayCases : Type 0 where
   pub before : onSmall thenUnknown 3 .made ≡ 1
   pub stop : onSmall thenUnknown 3 .stop ≡ 1
   -- "9 ... with the offset of that action's first byte"
-  pub offset : toldReplay (Refused Action) 9 ≡ record { refusal = 9; values = 9 ∷ [] }
+  pub offset : toldReplay (Refused Action) 13 ≡ record { refusal = 9; values = 13 ∷ [] }

@@ -4,7 +4,7 @@
 -- Assumes nothing.
 use mathlib.Core.Path.{_≡_}
 use mathlib.Core.Bool.{cond}
-use mathlib.Core.List.{List}
+use mathlib.Core.List.{List, [], _∷_}
 use Prim.Native.Nat.{ℕ, _+_}
 use lib.Dec.{eqb, ltb}
 use lib.ListN.{length, drop}
@@ -73,4 +73,6 @@ bufferFrom bytes at buffer = bufferBy (headerOf bytes) bytes at buffer
 -- to the end
 pub record NineRight (bytes : List ℕ) (r : ReplayOutcome) : Type 0 where
   pub nine : r .answer ≡ answer.Refused refusal.Action → codedAt bytes (r .stop) ≡ Broken
+  -- .. and the refusal tells that offset
+  pub told : r .answer ≡ answer.Refused refusal.Action → r .tells ≡ record { refusal = 9; values = r .stop ∷ [] }
   pub whole : r .answer ≡ answer.Accepted → r .stop ≡ length bytes

@@ -16,9 +16,9 @@ use Rattle.rules.specs.declared.state.Action.the-variants.{Begin}
 abbrev pub refusal : ℕ → List ℕ → Told
 refusal number values = record { refusal = number; values = values }
 
--- the small ring of the paper, a Write, and a byte that is no action, at offset 9
+-- the small ring of the paper, a Begin, and a byte that is no action, at offset 13
 unfoldable pub broken : List ℕ
-broken = headerBytes 2 1 0 ++ (2 ∷ 9 ∷ [])
+broken = headerBytes 2 1 0 ++ (1 ∷ 70 ∷ 0 ∷ 0 ∷ 0 ∷ 4 ∷ [])
 
 -- its replay, with a buffer of so many numbers
 abbrev pub withRoom : ℕ → ReplayOutcome
@@ -26,7 +26,7 @@ withRoom room = replayedFrom broken firstAction (replicate room 7)
 
 pub record TraceCases : Type 0 where
   -- the one answer has a place: 9, with its offset; it has none: 10
-  pub nine : withRoom 3 .tells ≡ refusal 9 (9 ∷ [])
+  pub nine : withRoom 3 .tells ≡ refusal 9 (13 ∷ [])
   pub made : withRoom 3 .made ≡ 1
   pub ten : withRoom 2 .tells ≡ refusal 10 []
   -- what a header tells: N, S and the mode that the ring gets, which byte 2 leaves to the plain ring; or a refusal's number

@@ -41,4 +41,4 @@ code-demand-1 =
 -- ---- demand 3
 
 pub code-demand-3 : CodeDemand3 promises
-code-demand-3 = record { fresh = fresh-claim; plain = λ r g. plain-claim (NoAction promises) r g refl; replay = replay-claim }
+code-demand-3 = record { fresh = fresh-claim; plain = λ r g. plain-claim NoAction r g refl; replay = replay-claim }

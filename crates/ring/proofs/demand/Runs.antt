@@ -2,20 +2,32 @@
 -- the rules holds of them (`singles-claim`), and of calls, which are single actions (`calls-claim`).
 -- Assumes nothing.
 use mathlib.Core.Path.{_≡_, refl, sym, ap, _∙_, subst}
+use mathlib.Core.Logic.{_≢_}
 use mathlib.Core.List.{List, [], _∷_, _++_}
-use Rattle.rules.specs.State.{State}
+use native.Mathlib.Omega.{arith}
+use lib.ListN.{length}
+use denote.Ref.{now}
+use Rattle.rules.specs.State.{sizeOf, State}
 use Rattle.rules.specs.Answers.{Outcome}
+use Rattle.rules.specs.SetUp.{freshRule}
 use Rattle.rules.specs.Receipt.{receiptRule}
+use Rattle.rules.specs.Replay.{stateAfter, Reached}
+use Rattle.rules.specs.Drain.{toldLast}
 use Rattle.rules.specs.Remember.{History}
 use Rattle.rules.specs.History.{Run, runAt, after, runOf, nothing, recall, valueIn}
 use Rattle.rules.specs.Demand.{Claim, CompleteClaim, Sound, RunClaim}
 use Rattle.ring.specs.Ring.{stateOf, outcome}
-use Rattle.ring.specs.Calls.{Single, asked, lastRing, lastBack, FollowSingly, Leads}
+use Rattle.ring.specs.Calls.{Single, asked, lastRing, Call, begin, write, read, act, drainInto, drain, lastBack, refusalIn, Gives, FollowSingly, Leads}
 use Rattle.ring.specs.Code.{runTold, runFrom, CodeClaim, AcceptedRing, ForCalls}
 use Rattle.rules.specs.declared.state.Action.{Action}
+use Rattle.rules.specs.declared.state.Action.the-variants as action
+use Rattle.rules.specs.declared.state.Last.{Last}
 use Rattle.rules.specs.declared.state.Receipt.{Receipt}
 use Rattle.ring.specs.declared.state.Ring.{Ring}
 use Rattle.rules.proofs.demand.Theorem.{demand-3}
+use Rattle.rules.proofs.runs.Always.{accepted-fits, fresh-is}
+use Rattle.rules.proofs.runs.Reached.{after-now}
+use Rattle.rules.proofs.drain.Within.{drain-unrefused}
 use Rattle.ring.proofs.demand.Promises.{promises}
 use Rattle.ring.proofs.demand.Steps.{leads-append}
 use Rattle.ring.proofs.demand.Singly.{calls-singly}
@@ -39,6 +51,19 @@ told-after r past (x ∷ rest) f =
     told-after (x .step .ring) (by here (x .action) (outcome (x .step)) .past) rest (f .1)
     ∙ ap (λ (o : Outcome). after (by here (x .action) o) (asked rest)) (f .0)
 
+-- no call on a ring that is sound and reached is refused with 1
+next-unbroken : (last : Ring) → Sound (stateOf last) → Reached (stateOf last) → (c : Call) → Gives promises last c → refusalIn c ≢ 1
+next-unbroken last sound reached (begin v s) g e = sound .unbroken (action.Begin v) (sym (ap (λ (o : Outcome). o .tells .refusal) g) ∙ e)
+next-unbroken last sound reached (write s) g e = sound .unbroken action.Write (sym (ap (λ (o : Outcome). o .tells .refusal) g) ∙ e)
+next-unbroken last sound reached (read s) g e = sound .unbroken action.Read (sym (ap (λ (o : Outcome). o .tells .refusal) g) ∙ e)
+next-unbroken last sound reached (act a s) g e = sound .unbroken a (sym (ap (λ (o : Outcome). o .tells .refusal) g) ∙ e)
+next-unbroken last sound reached (drainInto buffer d then) g e =
+    let none = ap (λ (l : Last). toldLast l .refusal) (g .0 .lastAnswer) ∙ drain-unrefused (stateOf last) (length (now buffer)) reached in
+    omega arith
+next-unbroken last sound reached (drain buffer d) g e =
+    let none = ap (λ (l : Last). toldLast l .refusal) (g .lastAnswer) ∙ drain-unrefused (stateOf last) (length (now buffer)) reached in
+    omega arith
+
 module _ (first : Ring) (start : AcceptedRing promises first) where
   singles-claim : (l : List Single) (last : Ring) → Leads promises first l last → (c : Receipt) → promises .receipt last c → CodeClaim promises last c (runFrom first l)
   singles-claim l last leads c receipt =
@@ -51,13 +76,26 @@ module _ (first : Ring) (start : AcceptedRing promises first) where
       let rulesAccept = sym (ap (λ (o : Outcome). o .answer) (setUp .given)) ∙ setUp .accepted in
       let whole : RunClaim r = subst RunClaim (sym ruled) (demand-3 (start .pages) (start .slots) (start .mode) rulesAccept (asked l)) in
       let sound : Sound (stateOf last) = subst Sound (sym now) (whole .sound) in
+      let size = sizeOf (start .pages) (start .slots) (start .mode) in
+      let fits = accepted-fits (start .pages) (start .slots) (start .mode) rulesAccept in
+      let reached : Reached (stateOf last) =
+      record {
+        size = size;
+        fits = fits;
+        actions = asked l;
+        reached =
+            now
+            ∙ ap (λ (r : Run). r .now) ruled
+            ∙ after-now (runAt (freshRule (start .pages) (start .slots) (start .mode) .state) nothing) (asked l)
+            ∙ ap (λ (s : State). stateAfter s (asked l)) (fresh-is (start .pages) (start .slots) (start .mode) fits);
+      } in
       let its : c ≡ receiptRule (r .now) = receipt ∙ ap receiptRule now in
       record {
         now = now;
         demand = subst (λ (c : Receipt). Claim c r) (sym its) (whole .demand);
         complete = subst (λ (c : Receipt). CompleteClaim c r) (sym its) (whole .complete);
         shape = sound .shape;
-        unbroken = λ a s gives e. sound .unbroken a (sym (ap (λ (o : Outcome). o .tells .refusal) gives) ∙ e);
+        unbroken = next-unbroken last sound reached;
         receipt = ap (λ (c : Receipt). c .refusal) receipt ∙ sound .receipt;
       }
 

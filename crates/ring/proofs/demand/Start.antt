@@ -50,14 +50,14 @@ plain-accepted r e = record { pages = plainPages; slots = plainSlots; mode = pla
 pub plain-claim : (Began : Ring → List Single → Type 0) (r : Ring) → stateOf r ≡ plainRing → Began r [] → ForCalls promises Began r
 plain-claim Began r e began = calls-claim r (plain-accepted r e) Began r [] began (record { follow = tt; last = refl })
 
-pub fresh-claim : (pages slots mode : ℕ) (s : Step) → promises .fresh pages slots mode s → ForCalls promises (NoAction promises) (s .ring)
+pub fresh-claim : (pages slots mode : ℕ) (s : Step) → promises .fresh pages slots mode s → ForCalls promises NoAction (s .ring)
 fresh-claim pages slots mode s g =
     by-bool (sizeFits (sizeOf pages slots mode))
     (λ fits.
     let its : AcceptedRing promises (s .ring) =
     record { pages = pages; slots = slots; mode = mode; setUp = set-up pages slots mode fits (s .ring) (ap (λ (o : Outcome). o .state) g ∙ rw fits refl) } in
-    calls-claim (s .ring) its (NoAction promises) (s .ring) [] refl (record { follow = tt; last = refl }))
-    (λ out. plain-claim (NoAction promises) (s .ring) (ap (λ (o : Outcome). o .state) g ∙ rw out refl) refl)
+    calls-claim (s .ring) its NoAction (s .ring) [] refl (record { follow = tt; last = refl }))
+    (λ out. plain-claim NoAction (s .ring) (ap (λ (o : Outcome). o .state) g ∙ rw out refl) refl)
 
 -- ---- a replay
 

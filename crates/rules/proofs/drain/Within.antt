@@ -18,7 +18,7 @@ use Rattle.rules.specs.Words.{readerOnCommit, links, findHeader}
 use Rattle.rules.specs.Shape.{inShape}
 use Rattle.rules.specs.Read.{readLimit, findBy, planReader, prepare, swap, fetched, readRule}
 use Rattle.rules.specs.Replay.{Reached}
-use Rattle.rules.specs.Drain.{DrainOutcome, drainReads, Brought, anEvent, anEmpty, aBusy, enough, Brings}
+use Rattle.rules.specs.Drain.{DrainOutcome, toldLast, drainReads, drainRule, Brought, anEvent, anEmpty, aBusy, enough, Brings}
 use Rattle.rules.specs.declared.state.ReaderPhase.{ReaderPhase}
 use Rattle.rules.specs.declared.state.ReaderPhase.the-variants as reading
 use Rattle.rules.specs.declared.state.Last.{Last}
@@ -172,3 +172,13 @@ reached-brings r h =
           (λ fits. absurd (true≢false (sym (ok-shape r g) ∙ fits)));
       sameAbove = λ most space fits. reads-same most fits space r g None;
     }
+
+-- so no drain of such a ring is refused
+brought-told : {last : Last} → Brought last → toldLast last .refusal ≡ 0
+brought-told (anEvent n v) = refl
+brought-told anEmpty = refl
+brought-told aBusy = refl
+
+pub drain-unrefused : (r : State) (space : ℕ) → Reached r → toldLast (drainRule r space .last) .refusal ≡ 0
+drain-unrefused r zero h = rw (ok-shape r (reached-ok r h)) refl
+drain-unrefused r (suc space) h = brought-told (reached-brings r h .ends space)

@@ -32,7 +32,7 @@ after-invariant [] r g = g
 after-invariant (a ∷ rest) r g = after-invariant rest (next r a) (action-next (r .now) (r .past) g a)
 
 -- an accepted set-up is one whose sizes fit
-accepted-fits : (pages slots mode : ℕ) → freshRule pages slots mode .answer ≡ answer.Accepted → sizeFits (sizeOf pages slots mode) ≡ true
+pub accepted-fits : (pages slots mode : ℕ) → freshRule pages slots mode .answer ≡ answer.Accepted → sizeFits (sizeOf pages slots mode) ≡ true
 accepted-fits pages slots mode e =
     by-bool (sizeFits (sizeOf pages slots mode))
     (λ t. t)

@@ -14,11 +14,12 @@ use Rattle.rules.specs.Lists.{first}
 use Rattle.rules.specs.State.{sizeOf, State}
 use Rattle.rules.specs.Shape.{sizeFits}
 use Rattle.rules.specs.Actions.{Decoded, byteAt, decoded, Decodes}
-use Rattle.rules.specs.Replay.{ranBuffer, bufferFits, bufferRule, refusedReplay, ran, replayRule, ReplayOutcome}
+use Rattle.rules.specs.Replay.{toldReplay, ranBuffer, bufferFits, bufferRule, refusedReplay, ran, replayRule, ReplayOutcome}
 use Rattle.trace.specs.Header.{modeOf, setUp, pagesAt, slotsAt, modeAt, setUpIn, headerRows, headerOf}
 use Rattle.trace.specs.Replays.{walkPlace, walkBytes, walkActions, wholeTo, walked, headerRing, replayedBy, replayedFrom, NineRight}
 use Rattle.rules.specs.declared.state.Refusal.{Refusal}
 use Rattle.rules.specs.declared.state.Refusal.the-variants as refusal
+use Rattle.rules.specs.declared.state.Answer.{Answer}
 use Rattle.rules.specs.declared.state.Answer.the-variants as answer
 use Rattle.trace.specs.declared.parts.Header.{Header}
 use Rattle.trace.specs.declared.parts.Header.the-variants.{Ready, Refused}
@@ -108,6 +109,7 @@ module _ (bytes : List ℕ) (at : ℕ) where
   refused-right why r n e =
       record {
         nine = λ h. let same : why ≡ refusal.Action = cc in absurd (n same);
+        told = λ h. let same : why ≡ refusal.Action = cc in absurd (n same);
         whole = λ h. let z : _≡_ {A = ℕ} 0 1 = cc in absurd (omega arith);
       }
 
@@ -128,6 +130,7 @@ module _ (bytes : List ℕ) (at : ℕ) where
             by-eq (d .stop) (length bytes)
             (λ e. let z : _≡_ {A = ℕ} 0 1 = accepted-or h (eq-eqb (d .stop) (length bytes) e) in absurd (omega arith))
             (λ n. from-place .broken (place-within (length bytes) at) n);
+        told = λ h. ap (λ (a : Answer). toldReplay a (d .stop)) h;
         whole = λ h.
             by-eq (d .stop) (length bytes)
             (λ e. e)

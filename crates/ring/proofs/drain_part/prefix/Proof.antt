@@ -20,5 +20,5 @@ pub prefix-spec : {M : Type 1} → statement M
 prefix-spec = tie.close (tie.spec slice-aggregate-result returns)
 
 -- it stores to its own locals, and calls nothing
-pub prefix-touches : Touches [] code.function
+pub prefix-touches : Touches [] (code.function .body)
 prefix-touches = record { stores = refl; calls = refl }

@@ -51,7 +51,7 @@ use denote.Exit.{yes, no}
 use Rattle.rules.specs.Drain.{DrainOutcome, drainRule, bufferAfter}
 use Rattle.ring.specs.Ring.{stateOf}
 use Rattle.ring.specs.Drain.{CountMatches}
-use Rattle.ring.specs.Touches.{Touches}
+use Rattle.ring.specs.Touches.{DrainsOnce}
 use Rattle.ring.specs.declared.state.Ring.{Ring}
 use Rattle.ring.specs.declared.state.DrainCount.{DrainCount}
 use Rattle.ring.specs.declared.drain_part.DrainPart.{DrainPart}
@@ -103,9 +103,9 @@ shape ρ σ = record {
 is-shape : code.function ≡ shape R′.mir L′.mir
 is-shape = refl
 
--- it stores to its own locals, and calls these two: the buffer is as `drain_into` leaves it
-pub drain-touches : Touches (#drain-into ∷ #prefix ∷ []) code.function
-drain-touches = record { stores = refl; calls = refl }
+-- what its code does to the buffer: `drain_into` first, and then no more than `prefix`
+pub drains-once : DrainsOnce #drain-into #prefix code.function
+drains-once = record { rest = _; first = refl; then = record { stores = refl; calls = refl } }
 
 abbrev stayed : Stays (drain.ended .signature .params) (drain.ended .kept)
 stayed = (stay-dropped (plain (λ _. R.the-row)) yes, (stay-dropped (mutSliceOf (0 ∷ []) tt (plain (λ _. u64))) no, tt))
