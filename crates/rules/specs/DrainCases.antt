@@ -1,5 +1,6 @@
 -- Worked drains: two readings in the small ring of the paper, and a ring whose drain the eight Reads in a row end. Request E2 has no such cases; these
--- fix by an example each what no other statement here does: how an Event is stored, what the buffer keeps, and where the eight end.
+-- fix by an example each what no other statement here does: how an Event is stored, what the buffer keeps, where the eight end, and what the last
+-- answer tells, of a ring out of shape too.
 -- Assumes nothing.
 use mathlib.Core.Path.{_≡_}
 use mathlib.Core.List.{[], _∷_}

@@ -38,7 +38,8 @@ fn told_from(run: Replay, length: usize, from: usize) -> Replay
     }
 }
 
-// The header, then the actions from `at` on, on the fresh ring that the header says. A buffer that is too short is refused as it is: no action was made.
+// The header, then the actions from `at` on, on the fresh ring that the header says. ROOM, for a buffer that is too short, is passed on as it came: no
+// action was made, and there is no stop to tell.
 pub(crate) fn replay_from(bytes: &[u8], at: usize, answers: &mut [u64]) -> Replay
     ensures { λ r. ⌜ (replayOutcome r ≡ replayedFrom (now (bytes .entry)) at (now (answers .entry))) × (now (answers .exit) ≡ bufferFrom (now (bytes .entry)) at (now (answers .entry))) ⌝ }
 {
