@@ -19,8 +19,10 @@ use Rattle.rules.specs.Demand.{Claim, CompleteClaim, Sound, RunClaim}
 use Rattle.ring.specs.Ring.{stateOf, outcome}
 use Rattle.ring.specs.Calls.{Single, asked, lastRing, Call, begin, write, read, act, drainInto, drain, lastBack, refusalIn, Gives, FollowSingly, Leads}
 use Rattle.ring.specs.Code.{runTold, runFrom, CodeClaim, AcceptedRing, ForCalls}
+use Rattle.rules.specs.declared.state.Size.{Size}
 use Rattle.rules.specs.declared.state.Action.{Action}
 use Rattle.rules.specs.declared.state.Action.the-variants as action
+use Rattle.rules.specs.declared.state.Answer.the-variants.{Accepted}
 use Rattle.rules.specs.declared.state.Last.{Last}
 use Rattle.rules.specs.declared.state.Receipt.{Receipt}
 use Rattle.ring.specs.declared.state.Ring.{Ring}
@@ -65,39 +67,53 @@ next-unbroken last sound reached (drain buffer d) g e =
     omega arith
 
 module _ (first : Ring) (start : AcceptedRing promises first) where
-  singles-claim : (l : List Single) (last : Ring) → Leads promises first l last → (c : Receipt) → promises .receipt last c → CodeClaim promises last c (runFrom first l)
-  singles-claim l last leads c receipt =
-      let setUp = start .setUp in
-      let r = runFrom first l in
-      let now : stateOf last ≡ r .now = ap stateOf (sym (leads .last)) ∙ last-told first nothing l in
-      let begins = ap stateOf (sym (setUp .ring)) ∙ ap (λ (o : Outcome). o .state) (setUp .given) in
-      let ruled : r ≡ runOf (start .pages) (start .slots) (start .mode) (asked l) =
-      told-after first nothing l (leads .follow) ∙ ap (λ (s : State). after (runAt s nothing) (asked l)) begins in
-      let rulesAccept = sym (ap (λ (o : Outcome). o .answer) (setUp .given)) ∙ setUp .accepted in
-      let whole : RunClaim r = subst RunClaim (sym ruled) (demand-3 (start .pages) (start .slots) (start .mode) rulesAccept (asked l)) in
-      let sound : Sound (stateOf last) = subst Sound (sym now) (whole .sound) in
-      let size = sizeOf (start .pages) (start .slots) (start .mode) in
-      let fits = accepted-fits (start .pages) (start .slots) (start .mode) rulesAccept in
-      let reached : Reached (stateOf last) =
-      record {
-        size = size;
-        fits = fits;
-        actions = asked l;
-        reached =
-            now
-            ∙ ap (λ (r : Run). r .now) ruled
-            ∙ after-now (runAt (freshRule (start .pages) (start .slots) (start .mode) .state) nothing) (asked l)
-            ∙ ap (λ (s : State). stateAfter s (asked l)) (fresh-is (start .pages) (start .slots) (start .mode) fits);
-      } in
-      let its : c ≡ receiptRule (r .now) = receipt ∙ ap receiptRule now in
-      record {
-        now = now;
-        demand = subst (λ (c : Receipt). Claim c r) (sym its) (whole .demand);
-        complete = subst (λ (c : Receipt). CompleteClaim c r) (sym its) (whole .complete);
-        shape = sound .shape;
-        unbroken = next-unbroken last sound reached;
-        receipt = ap (λ (c : Receipt). c .refusal) receipt ∙ sound .receipt;
-      }
+  abbrev size : Size
+  size = sizeOf (start .pages) (start .slots) (start .mode)
+
+  accepts : freshRule (start .pages) (start .slots) (start .mode) .answer ≡ Accepted
+  accepts = sym (ap (λ (o : Outcome). o .answer) (start .setUp .given)) ∙ start .setUp .accepted
+
+  begins : stateOf first ≡ freshRule (start .pages) (start .slots) (start .mode) .state
+  begins = ap stateOf (sym (start .setUp .ring)) ∙ ap (λ (o : Outcome). o .state) (start .setUp .given)
+
+  module _ (l : List Single) (last : Ring) (leads : Leads promises first l last) where
+    -- the run, whose state is that of the last ring, is the run of the rules
+    abbrev told : Run
+    told = runFrom first l
+
+    now-told : stateOf last ≡ told .now
+    now-told = ap stateOf (sym (leads .last)) ∙ last-told first nothing l
+
+    ruled : told ≡ runOf (start .pages) (start .slots) (start .mode) (asked l)
+    ruled = told-after first nothing l (leads .follow) ∙ ap (λ (s : State). after (runAt s nothing) (asked l)) begins
+
+    reached : Reached (stateOf last)
+    reached =
+        let fits = accepted-fits (start .pages) (start .slots) (start .mode) accepts in
+        record {
+          size = size;
+          fits = fits;
+          actions = asked l;
+          reached =
+              now-told
+              ∙ ap (λ (r : Run). r .now) ruled
+              ∙ after-now (runAt (freshRule (start .pages) (start .slots) (start .mode) .state) nothing) (asked l)
+              ∙ ap (λ (s : State). stateAfter s (asked l)) (fresh-is (start .pages) (start .slots) (start .mode) fits);
+        }
+
+    singles-claim : (c : Receipt) → promises .receipt last c → CodeClaim promises last c told
+    singles-claim c receipt =
+        let whole : RunClaim told = subst RunClaim (sym ruled) (demand-3 (start .pages) (start .slots) (start .mode) accepts (asked l)) in
+        let sound : Sound (stateOf last) = subst Sound (sym now-told) (whole .sound) in
+        let its : c ≡ receiptRule (told .now) = receipt ∙ ap receiptRule now-told in
+        record {
+          now = now-told;
+          demand = subst (λ (c : Receipt). Claim c told) (sym its) (whole .demand);
+          complete = subst (λ (c : Receipt). CompleteClaim c told) (sym its) (whole .complete);
+          shape = sound .shape;
+          unbroken = next-unbroken last sound reached;
+          receipt = ap (λ (c : Receipt). c .refusal) receipt ∙ sound .receipt;
+        }
 
   -- a run that began with the single actions `before`, which led to the ring `here`
   pub calls-claim : (Began : Ring → List Single → Type 0) (here : Ring) (before : List Single) → Began first before → Leads promises first before here → ForCalls promises Began here
