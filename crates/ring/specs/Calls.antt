@@ -7,8 +7,8 @@ use mathlib.Core.List.{List, [], _∷_, _++_}
 use Prim.Native.Nat.{ℕ}
 use lib.ListN.{length, replicate}
 use denote.Ref.{RefT, now}
-use Rattle.rules.specs.Replay.{over}
 use Rattle.rules.specs.Answers.{told}
+use Rattle.rules.specs.Replay.{over}
 use Rattle.rules.specs.Drain.{toldLast, eventsAmong, lastOf}
 use Rattle.rules.specs.declared.state.Action.{Action}
 use Rattle.rules.specs.declared.state.Action.the-variants as action

@@ -1,4 +1,4 @@
--- What is proved of the rules: the limits, the worked cases, demand 3, and the later requests.
+-- What is proved of the rules: the limits, the worked cases, demands 1 and 3, and the later requests.
 pub mod Limits
 pub mod Lists
 pub mod Cases

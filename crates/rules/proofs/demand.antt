@@ -1,4 +1,4 @@
--- From the invariant to demand 3, to what complete means, and to a ring always in shape. `Theorem` has the theorem.
+-- From the invariant to demand 3, to what complete means, and to a ring always in shape; `Theorem` has the theorem. `Refusals` has demand 1.
 pub mod Events
 pub mod Lost
 pub mod Slots

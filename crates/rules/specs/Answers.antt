@@ -28,11 +28,14 @@ pub record Told : Type 0 where
   pub refusal : ℕ
   pub values : List ℕ
 
+abbrev pub tellsOf : ℕ → List ℕ → Told
+tellsOf refusal values = record { refusal = refusal; values = values }
+
 abbrev pub says : List ℕ → Told
-says values = record { refusal = 0; values = values }
+says values = tellsOf 0 values
 
 abbrev pub refuses : Refusal → Told
-refuses why = record { refusal = refusalNumber why; values = [] }
+refuses why = tellsOf (refusalNumber why) []
 
 abbrev pub told : Answer → Told
 told Accepted = says []

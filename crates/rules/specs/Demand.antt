@@ -242,8 +242,9 @@ pub record CompleteClaim (c : Receipt) (r : Run) : Type 0 where
 abbrev pub Complete : Run → Type 0
 Complete r = CompleteClaim (receiptRule (r .now)) r
 
--- ---- 9. the ring is always in shape: no action and no receipt is refused with 1. That 2, 3 and 4 are given just as listed holds of every state (specs/Listed)
+-- ---- 9. the ring is always in shape: no action and no receipt is refused with 1
 
+-- that 2, 3 and 4 are given just as listed holds of every state (specs/Listed)
 pub record Sound (r : State) : Type 0 where
   pub shape : inShape r ≡ true
   pub unbroken : (a : Action) → act r a .tells .refusal ≢ 1

@@ -7,6 +7,7 @@ use mathlib.Core.List.{[], _∷_}
 use Prim.Native.Nat.{_+_, _^_}
 use Rattle.rules.specs.Limits.{overwriteMode}
 use Rattle.rules.specs.State.{page, reading, sizeOf, withCommitPage, State}
+use Rattle.rules.specs.Answers.{tellsOf}
 use Rattle.rules.specs.SetUp.{freshRing}
 use Rattle.rules.specs.Replay.{stateAfter}
 use Rattle.rules.specs.Drain.{drainRule, bufferAfter}
@@ -37,8 +38,8 @@ pub record DrainCases : Type 0 where
   -- "until the buffer is full"
   pub full : drainRule twoReadings 1 .last ≡ Given (answer.Event (reading 0) 70)
   -- what the last answer tells: a number and a value, or a refusal's number
-  pub told : drainRule twoReadings 1 .tells ≡ record { refusal = 0; values = 0 ∷ 70 ∷ [] }
-  pub refused : drainRule commitNowhere 0 .tells ≡ record { refusal = 1; values = [] }
+  pub told : drainRule twoReadings 1 .tells ≡ tellsOf 0 (0 ∷ 70 ∷ [])
+  pub refused : drainRule commitNowhere 0 .tells ≡ tellsOf 1 []
   -- "length 0 means no Read, ... last answer "none""
   pub noRead : drainRule twoReadings 0 .last ≡ None
   -- "or eight Reads in a row have brought none of these and no Event": Found, Prepared, Swapped, the same again, Found, Prepared

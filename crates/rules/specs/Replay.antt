@@ -8,7 +8,7 @@ use lib.Dec.{eqb, leb}
 use lib.ListN.{length, drop}
 use Rattle.rules.specs.Lists.{first}
 use Rattle.rules.specs.State.{sizeOf, State}
-use Rattle.rules.specs.Answers.{refusalNumber, Told, told}
+use Rattle.rules.specs.Answers.{refusalNumber, Told, tellsOf, told}
 use Rattle.rules.specs.Codes.{numbersOf}
 use Rattle.rules.specs.Shape.{sizeFits}
 use Rattle.rules.specs.SetUp.{freshRing, plainRing}
@@ -67,7 +67,7 @@ pub record ReplayOutcome : Type 0 where
 -- what the answer tells, and "9 ... with the offset of that action's first byte": the place where the actions stop
 abbrev pub toldReplay : Answer → ℕ → Told
 toldReplay a stop =
-    record { refusal = told a .refusal; values = cond (eqb (told a .refusal) (refusalNumber refusal.Action)) (stop ∷ []) (told a .values) }
+    tellsOf (told a .refusal) (cond (eqb (told a .refusal) (refusalNumber refusal.Action)) (stop ∷ []) (told a .values))
 
 abbrev pub replayWith : State → Answer → ℕ → ℕ → ReplayOutcome
 replayWith r a made stop = record { state = r; answer = a; tells = toldReplay a stop; made = made; stop = stop }

@@ -1,11 +1,12 @@
--- Worked replays: where a buffer is too short for the answers. Request E1 has no buffer; these fix by an example each that room is wanted for the answers of
--- the actions, and not for each byte, and what an unknown action leaves.
+-- Worked replays: where a buffer is too short for the answers. Request E1 has no buffer; these fix by an example each that room is wanted for the
+-- answers of the actions, and not for each byte, and what an unknown action leaves and tells.
 -- Assumes nothing.
 use mathlib.Core.Path.{_≡_}
 use mathlib.Core.List.{List, [], _∷_}
 use Prim.Native.Nat.{ℕ}
 use lib.ListN.{length, replicate}
 use Rattle.rules.specs.Limits.{overwriteMode}
+use Rattle.rules.specs.Answers.{tellsOf}
 use Rattle.rules.specs.Actions.{encoded}
 use Rattle.rules.specs.Replay.{toldReplay, replayRule, bufferRule, ReplayOutcome}
 use Rattle.rules.specs.declared.state.Action.the-variants.{Begin}
@@ -39,4 +40,4 @@ pub record ReplayCases : Type 0 where
   pub before : onSmall thenUnknown 3 .made ≡ 1
   pub stop : onSmall thenUnknown 3 .stop ≡ 1
   -- "9 ... with the offset of that action's first byte"
-  pub offset : toldReplay (Refused Action) 13 ≡ record { refusal = 9; values = 13 ∷ [] }
+  pub offset : toldReplay (Refused Action) 13 ≡ tellsOf 9 (13 ∷ [])

@@ -2,6 +2,7 @@
 -- action on the plain ring, or with the trace's actions, which are single actions, on the ring of its set-up (the ring's proofs/demand/Start).
 -- Assumes nothing.
 use mathlib.Core.Path.{_≡_, refl, sym, ap, _∙_}
+use mathlib.Core.Logic.{_≢_}
 use mathlib.Core.List.{List, []}
 use Prim.Native.Nat.{ℕ}
 use native.Mathlib.Omega.{arith}
@@ -74,34 +75,25 @@ module _ (bytes : List ℕ) (at : ℕ) (buffer : List ℕ) (r : Replay) (then : 
   abbrev Began : Ring → List Single → Type 0
   Began = TraceReplayed promises bytes at buffer r then
 
-  -- the header is refused
-  header-claim : (why : Refusal) → headerOf bytes ≡ Refused why → replayOutcome r ≡ refusedReplay why → then ≡ buffer → ForCalls promises Began (r .ring)
-  header-claim why says e kept =
+  -- refused before the first action; `never` says that it is not a header that is read and a buffer that is long enough
+  refused-claim :
+      (why : Refusal) →
+      replayOutcome r ≡ refusedReplay why →
+      then ≡ buffer →
+      ((pages slots mode : ℕ) → headerOf bytes ≡ Ready pages slots mode → r .answer ≢ answer.Refused Room → ⊥) →
+      ForCalls promises Began (r .ring)
+  refused-claim why e kept never =
       plain-claim Began (r .ring) (ap (λ (o : ReplayOutcome). o .state) e)
       (record {
         made = ap (λ (o : ReplayOutcome). o .made) e;
         answers = kept;
-        setUp = λ pages slots mode ready. ready-once says ready;
-        actions = λ pages slots mode ready. ready-once says ready;
+        setUp = λ pages slots mode ready other. absurd (never pages slots mode ready other);
+        actions = λ pages slots mode ready other. absurd (never pages slots mode ready other);
         unmade = λ why is. refl;
         unplaced = λ is. refl;
       })
 
   module _ (pages slots mode : ℕ) (says : headerOf bytes ≡ Ready pages slots mode) where
-    -- the answers have no place
-    room-claim : replayOutcome r ≡ refusedReplay Room → then ≡ buffer → ForCalls promises Began (r .ring)
-    room-claim e kept =
-        let refused = ap (λ (o : ReplayOutcome). o .answer) e in
-        plain-claim Began (r .ring) (ap (λ (o : ReplayOutcome). o .state) e)
-        (record {
-          made = ap (λ (o : ReplayOutcome). o .made) e;
-          answers = kept;
-          setUp = λ pages slots mode ready other. absurd (other refused);
-          actions = λ pages slots mode ready other. absurd (other refused);
-          unmade = λ why is. refl;
-          unplaced = λ is. refl;
-        })
-
     -- the actions are made
     walk-claim :
         replayOutcome r ≡ walked (length bytes) (headerRing pages slots mode) (walkActions bytes at) →
@@ -122,11 +114,14 @@ module _ (bytes : List ℕ) (at : ℕ) (buffer : List ℕ) (r : Replay) (then : 
 
   by-header : (h : Header) → headerOf bytes ≡ h → Walks bytes at buffer r then → ForCalls promises Began (r .ring)
   unfolding replayedFrom bufferFrom
-  by-header (Refused why) says g = header-claim why says (g .0 ∙ rw says refl) (g .1 ∙ rw says refl)
+  by-header (Refused why) says g =
+      refused-claim why (g .0 ∙ rw says refl) (g .1 ∙ rw says refl) (λ pages slots mode ready other. ready-once says ready)
   by-header (Ready pages slots mode) says g =
       by-bool (bufferFits (walkActions bytes at) (length buffer))
       (λ room. walk-claim pages slots mode says (g .0 ∙ rw (says, room) refl) (g .1 ∙ rw (says, room) refl))
-      (λ short. room-claim pages slots mode says (g .0 ∙ rw (says, short) refl) (g .1 ∙ rw (says, short) refl))
+      (λ short.
+      let e = g .0 ∙ rw (says, short) refl in
+      refused-claim Room e (g .1 ∙ rw (says, short) refl) (λ pages slots mode ready other. other (ap (λ (o : ReplayOutcome). o .answer) e)))
 
 pub trace-demand-3 : TraceDemand3 promises ReplayGives ReaderGives
 trace-demand-3 =

@@ -9,6 +9,7 @@ use Prim.Native.Nat.{ℕ, _+_}
 use lib.Dec.{eqb, ltb}
 use lib.ListN.{length, drop}
 use Rattle.rules.specs.State.{sizeOf, State}
+use Rattle.rules.specs.Answers.{tellsOf}
 use Rattle.rules.specs.SetUp.{freshRing}
 use Rattle.rules.specs.Actions.{Decoded, codedAt, decodedFrom}
 use Rattle.rules.specs.Replay.{stateAfter, ranBuffer, bufferFits, replayWith, refusedReplay, ReplayOutcome}
@@ -74,5 +75,5 @@ bufferFrom bytes at buffer = bufferBy (headerOf bytes) bytes at buffer
 pub record NineRight (bytes : List ℕ) (r : ReplayOutcome) : Type 0 where
   pub nine : r .answer ≡ answer.Refused refusal.Action → codedAt bytes (r .stop) ≡ Broken
   -- .. and the refusal tells that offset
-  pub told : r .answer ≡ answer.Refused refusal.Action → r .tells ≡ record { refusal = 9; values = r .stop ∷ [] }
+  pub told : r .answer ≡ answer.Refused refusal.Action → r .tells ≡ tellsOf 9 (r .stop ∷ [])
   pub whole : r .answer ≡ answer.Accepted → r .stop ≡ length bytes

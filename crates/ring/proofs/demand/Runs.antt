@@ -5,14 +5,16 @@ use mathlib.Core.Path.{_≡_, refl, sym, ap, _∙_, subst}
 use mathlib.Core.Logic.{_≢_}
 use mathlib.Core.List.{List, [], _∷_, _++_}
 use native.Mathlib.Omega.{arith}
+use Prim.Native.Nat.{ℕ}
 use lib.ListN.{length}
 use denote.Ref.{now}
 use Rattle.rules.specs.State.{sizeOf, State}
+use Rattle.rules.specs.Answers as answers
 use Rattle.rules.specs.Answers.{Outcome}
 use Rattle.rules.specs.SetUp.{freshRule}
 use Rattle.rules.specs.Receipt.{receiptRule}
 use Rattle.rules.specs.Replay.{stateAfter, Reached}
-use Rattle.rules.specs.Drain.{toldLast}
+use Rattle.rules.specs.Drain.{toldLast, drainRule}
 use Rattle.rules.specs.Remember.{History}
 use Rattle.rules.specs.History.{Run, runAt, after, runOf, nothing, recall, valueIn}
 use Rattle.rules.specs.Demand.{Claim, CompleteClaim, Sound, RunClaim}
@@ -26,6 +28,7 @@ use Rattle.rules.specs.declared.state.Answer.the-variants.{Accepted}
 use Rattle.rules.specs.declared.state.Last.{Last}
 use Rattle.rules.specs.declared.state.Receipt.{Receipt}
 use Rattle.ring.specs.declared.state.Ring.{Ring}
+use Rattle.ring.specs.declared.state.Step.{Step}
 use Rattle.rules.proofs.demand.Theorem.{demand-3}
 use Rattle.rules.proofs.runs.Always.{accepted-fits, fresh-is}
 use Rattle.rules.proofs.runs.Reached.{after-now}
@@ -54,17 +57,22 @@ told-after r past (x ∷ rest) f =
     ∙ ap (λ (o : Outcome). after (by here (x .action) o) (asked rest)) (f .0)
 
 -- no call on a ring that is sound and reached is refused with 1
-next-unbroken : (last : Ring) → Sound (stateOf last) → Reached (stateOf last) → (c : Call) → Gives promises last c → refusalIn c ≢ 1
-next-unbroken last sound reached (begin v s) g e = sound .unbroken (action.Begin v) (sym (ap (λ (o : Outcome). o .tells .refusal) g) ∙ e)
-next-unbroken last sound reached (write s) g e = sound .unbroken action.Write (sym (ap (λ (o : Outcome). o .tells .refusal) g) ∙ e)
-next-unbroken last sound reached (read s) g e = sound .unbroken action.Read (sym (ap (λ (o : Outcome). o .tells .refusal) g) ∙ e)
-next-unbroken last sound reached (act a s) g e = sound .unbroken a (sym (ap (λ (o : Outcome). o .tells .refusal) g) ∙ e)
-next-unbroken last sound reached (drainInto buffer d then) g e =
-    let none = ap (λ (l : Last). toldLast l .refusal) (g .0 .lastAnswer) ∙ drain-unrefused (stateOf last) (length (now buffer)) reached in
-    omega arith
-next-unbroken last sound reached (drain buffer d) g e =
-    let none = ap (λ (l : Last). toldLast l .refusal) (g .lastAnswer) ∙ drain-unrefused (stateOf last) (length (now buffer)) reached in
-    omega arith
+module _ (last : Ring) (sound : Sound (stateOf last)) (reached : Reached (stateOf last)) where
+  step-unbroken : (a : Action) (s : Step) → promises .act last a s → answers.told (s .answer) .refusal ≢ 1
+  step-unbroken a s g e = sound .unbroken a (sym (ap (λ (o : Outcome). o .tells .refusal) g) ∙ e)
+
+  drain-unbroken : (space : ℕ) (l : Last) → l ≡ drainRule (stateOf last) space .last → toldLast l .refusal ≢ 1
+  drain-unbroken space l same e =
+      let none = ap (λ (l : Last). toldLast l .refusal) same ∙ drain-unrefused (stateOf last) space reached in
+      omega arith
+
+  next-unbroken : (c : Call) → Gives promises last c → refusalIn c ≢ 1
+  next-unbroken (begin v s) g = step-unbroken (action.Begin v) s g
+  next-unbroken (write s) g = step-unbroken action.Write s g
+  next-unbroken (read s) g = step-unbroken action.Read s g
+  next-unbroken (act a s) g = step-unbroken a s g
+  next-unbroken (drainInto buffer d then) g = drain-unbroken (length (now buffer)) (d .last) (g .0 .lastAnswer)
+  next-unbroken (drain buffer d) g = drain-unbroken (length (now buffer)) (d .last) (g .lastAnswer)
 
 module _ (first : Ring) (start : AcceptedRing promises first) where
   abbrev size : Size

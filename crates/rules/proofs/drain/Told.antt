@@ -1,4 +1,5 @@
--- What a drain tells is what its last answer tells: each way to end a drain says so, and an Event before others changes neither of the two. Assumes nothing.
+-- What a drain tells is what its last answer tells: each way to end a drain says so, and an Event before others changes neither of the two.
+-- Assumes nothing.
 use mathlib.Core.Path.{_≡_, refl}
 use Prim.Native.Nat.{ℕ, zero, suc}
 use Rattle.rules.specs.Limits.{mostInRow}
