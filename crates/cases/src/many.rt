@@ -98,5 +98,5 @@ pub(crate) fn run() {
     let ring = all_readings(fresh(16, 16, Ring::STOP), &mut tally, &mut events);
     text::tally(&tally);
     text::number_line(b"Event(i, i)", events);
-    text::receipt(ring.receipt());
+    text::receipt(ring.size, ring.receipt());
 }

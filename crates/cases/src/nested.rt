@@ -16,7 +16,7 @@ fn k9() {
     ring = write(ring);
     ring = write(ring);
     ring = write(ring);
-    text::receipt(ring.receipt());
+    text::receipt(ring.size, ring.receipt());
 }
 
 fn k10() {
@@ -30,7 +30,7 @@ fn k10() {
     ring = write(ring);
     text::number_line(b"depth", ring.depth as u64);
     text::number_line(b"committed", ring.counts.committed);
-    text::receipt(ring.receipt());
+    text::receipt(ring.size, ring.receipt());
 }
 
 fn k11() {
@@ -42,7 +42,7 @@ fn k11() {
     ring = begin(ring, 30);
     ring = begin(ring, 40);
     ring = begin(ring, 50);
-    text::receipt(ring.receipt());
+    text::receipt(ring.size, ring.receipt());
 }
 
 pub(crate) fn run() {

@@ -40,7 +40,7 @@ fn out_of_shape() {
     read(ring);
     drain_line(b"drain of 0", ring, 0);
     drain_line(b"drain of 1", ring, 1);
-    text::receipt(ring.receipt());
+    text::receipt(ring.size, ring.receipt());
 }
 
 pub(crate) fn run() {

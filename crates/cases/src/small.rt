@@ -75,7 +75,7 @@ fn k8(mut ring: Ring) {
     ring = read(ring);
     text::words_line(ring);
     ring = read(ring);
-    text::receipt(ring.receipt());
+    text::receipt(ring.size, ring.receipt());
 }
 
 pub(crate) fn run() {

@@ -1,19 +1,51 @@
-// Replays the traces in the files that its arguments name, and prints what each answered.
-mod files; // the bytes of a file
-mod print; // a replay as text
+// Replays the traces in the files that its arguments name, and prints what each answered, in one of four forms.
+mod print; // a replay as text, or as a table
+mod forms; // a trace in each form
+mod totals; // how many traces of each kind
 
 ghost use mathlib.Core.Path.{_≡_};
 ghost use lib.ListN.{length};
+use files::Status;
+use forms::ANSWERS;
+use forms::BYTES;
+use forms::Form;
+use forms::form_named;
+use forms::show_break;
+use forms::show_end;
+use forms::show_file;
 use libc::STDERR_FILENO;
-use ring::replay::NUMBERS_PER_ANSWER;
-use trace::parts::FIRST_ACTION;
-use trace::parts::MOST_LENGTH;
+use totals::Totals;
+use totals::no_traces;
 
 // Linux passes no longer argument where its memory pages have 4 KiB, so a name is not cut there. A longer one is an empty name, which no file has.
 const NAME: usize = 131072;
 
-// Room for the answers of the longest trace: one to each byte after its header.
-const ANSWERS: usize = NUMBERS_PER_ANSWER * (MOST_LENGTH - FIRST_ACTION);
+// The form's name is argument 1, and the files follow.
+const FIRST_FILE: usize = 2;
+
+// The form that argument 1 names.
+fn form_asked() -> Form {
+    let mut buffer = [0u8; 16];
+    let n = os::arg(1, &mut buffer);
+    form_named(&buffer[..n])
+}
+
+// The file that argument i names.
+fn show_named(form: Form, i: usize, name: &mut [u8], bytes: &mut [u8], answers: &mut [u64]) -> Totals {
+    let n = os::arg(i, name);
+    let parted = show_break(i == FIRST_FILE);
+    parted.and(show_file(form, &name[..n], bytes, answers))
+}
+
+fn show_argument(
+    form: Form,
+    i: usize,
+    name: &mut [u8; NAME],
+    bytes: &mut [u8; BYTES],
+    answers: &mut [u64; ANSWERS],
+) -> Totals {
+    show_named(form, i, name, bytes, answers)
+}
 
 fn name_buffer() -> [u8; NAME]
     ensures { λ r. ⌜ 131072 ≡ length r ⌝ }
@@ -21,49 +53,44 @@ fn name_buffer() -> [u8; NAME]
     [0u8; NAME]
 }
 
-fn show_trace(bytes: &[u8]) {
+// All files; the room for their bytes and answers is made once.
+fn show_files(form: Form, count: usize) -> Totals {
+    let mut name = name_buffer();
+    let mut bytes = [0u8; BYTES];
     let mut answers = [0u64; ANSWERS];
-    let replay = trace::replay(bytes, &mut answers);
-    print::print_replay(bytes, &answers, replay);
-}
-
-fn show_file(name: &[u8]) {
-    let mut bytes = [0u8; files::MOST];
-    let loaded = files::read_file(name, &mut bytes);
-    if loaded.good {
-        let n = loaded.count;
-        show_trace(&bytes[..n]);
-    }
-}
-
-// A file's heading: its name.
-fn name_line(i: usize, name: &[u8]) {
-    if i == 1 {
-        text::heading(name);
-    } else {
-        text::section(name);
-    }
-}
-
-// The file that argument i names. It has a heading where there are several files.
-fn show_argument(i: usize, several: bool) {
-    let mut buffer = name_buffer();
-    let n = os::arg(i, &mut buffer);
-    if several {
-        name_line(i, &buffer[..n]);
-    }
-    show_file(&buffer[..n]);
-}
-
-// The program's own name is argument 0.
-fn main() {
-    let count = os::arg_count();
-    if count < 2 {
-        io::write_all(STDERR_FILENO, b"replay: no file is named\n");
-    }
-    let mut i: usize = 1;
+    let mut totals = no_traces();
+    let mut i: usize = FIRST_FILE;
     while i < count {
-        show_argument(i, 2 < count);
+        totals = totals.and(show_argument(form, i, &mut name, &mut bytes, &mut answers));
         i = i + 1;
     }
+    totals.and(show_end(form, totals))
+}
+
+// One line about wrong use.
+fn wrong_use(line: &[u8]) -> Status {
+    io::write_all(STDERR_FILENO, line);
+    Status::WrongUse
+}
+
+fn run(count: usize) -> Status {
+    let form = form_asked();
+    if count <= FIRST_FILE {
+        return wrong_use(b"ring: replay FORM FILE..\n");
+    }
+    match form {
+        Form::Other => wrong_use(b"ring: replay FORM FILE..\n"),
+        Form::Csv => {
+            if FIRST_FILE + 1 < count {
+                wrong_use(b"ring: csv takes one file\n")
+            } else {
+                show_files(form, count).status()
+            }
+        }
+        _ => show_files(form, count).status(),
+    }
+}
+
+fn main() {
+    files::tell(run(os::arg_count()));
 }

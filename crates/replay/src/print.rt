@@ -1,14 +1,13 @@
-// A replay as text.
+// The actions of a replay as text, or as a table.
 ghost use Prim.Native.Nat.{_+_, _*_, _≤_};
 ghost use lib.ListN.{length};
+use ring::Action;
 use ring::Answer;
 use ring::Coded;
 use ring::Numbers;
-use ring::Refusal;
-use ring::Replay;
-use ring::Ring;
 use ring::action_at;
 use ring::replay::NUMBERS_PER_ANSWER;
+use rules::state::Size;
 use trace::parts::FIRST_ACTION;
 
 // The code of an answer. It is far below this limit, which is for the cast alone.
@@ -35,57 +34,33 @@ fn answers_in(answers: &[u64], made: usize) -> usize
     if made < most { made } else { most }
 }
 
+// One action with its answer: a row of a table, or a line of text.
+fn action_line(table: bool, index: usize, offset: usize, action: Action, numbers: Numbers) -> bool {
+    if table {
+        text::csv_line(index as u64, offset as u64, action, numbers)
+    } else {
+        text::numbers_line(action, numbers)
+    }
+}
+
 // A line for each action made, with its answer. The bytes are walked again, beside the answers: as many whole actions stand there as were made.
-fn action_lines(bytes: &[u8], answers: &[u64], made: usize) {
+pub fn action_lines(bytes: &[u8], answers: &[u64], made: usize, table: bool) -> bool {
     let count = answers_in(answers, made);
+    let mut good = true;
     let mut at = FIRST_ACTION;
     let mut i: usize = 0;
     while i < count {
         let Coded::Whole(action, next) = action_at(bytes, at) else {
-            return;
+            return good;
         };
-        text::numbers_line(action, numbers_at(answers, NUMBERS_PER_ANSWER * i));
+        let numbers = numbers_at(answers, NUMBERS_PER_ANSWER * i);
+        good = action_line(table, i, at, action, numbers) & good;
         at = next;
         i = i + 1;
     }
+    good
 }
 
-// Whether a ring was set up: a trace that is refused for its actions has a set-up all the same.
-fn is_set_up(answer: Answer) -> bool {
-    match answer {
-        Answer::Accepted => true,
-        Answer::Refused(why) => is_of_an_action(why),
-        _ => false,
-    }
-}
-
-fn is_of_an_action(why: Refusal) -> bool {
-    match why {
-        Refusal::Action => true,
-        _ => false,
-    }
-}
-
-fn set_up_line(ring: Ring) {
-    let size = ring.size;
-    text::fresh_line(size.pages, size.slots, size.mode, Answer::Accepted);
-}
-
-// The line of a refused trace, and none for one that is not refused.
-fn refusal_line(answer: Answer, stop: usize) {
-    if let Answer::Refused(why) = answer {
-        text::trace_line(why.number(), stop as u64);
-    }
-}
-
-// The set-up, the actions made, the refusal and the receipt.
-pub fn print_replay(bytes: &[u8], answers: &[u64], replay: Replay) {
-    let ring = replay.ring;
-    let answer = replay.answer;
-    if is_set_up(answer) {
-        set_up_line(ring);
-    }
-    action_lines(bytes, answers, replay.made);
-    refusal_line(answer, replay.stop);
-    text::receipt(ring.receipt());
+pub fn set_up_line(size: Size) -> bool {
+    text::fresh_line(size.pages, size.slots, size.mode, Answer::Accepted)
 }

@@ -1,2 +1,4 @@
--- What the text's numbers are.
+-- What the text's numbers are, and which name is no file's.
 pub mod Tallies
+pub mod Receipts
+pub mod FileNames

@@ -1,11 +1,13 @@
-// Headings, and lines of two columns about an action, a ring or a trace.
+// Headings, and lines of two columns about an action, a ring or a trace. Each function that prints answers whether it could.
 ghost use Prim.Native.Nat.{_≤_};
+use crate::covers::Covers;
+use crate::covers::trace_refusal;
 use crate::names::answer;
-use crate::names::refusal_name;
 use crate::put::Line;
 use crate::put::ROOM;
 use crate::put::end_line;
 use crate::put::hex;
+use crate::put::many;
 use crate::put::number;
 use crate::put::pad;
 use crate::put::whole_line;
@@ -15,19 +17,25 @@ use ring::Answer;
 use ring::Numbers;
 use ring::Ring;
 use ring::answer_numbers;
+use std::num::wrapping_add_u64;
 
-// Of a trace's refusals, the one whose place in the trace is said: an unknown or cut action.
-const AT_BYTE: u32 = 9;
+// How many hexadecimal digits a digest has.
+const DIGEST: usize = 8;
 
 // The first line of a text's first section.
-pub fn heading(text: &[u8]) {
-    whole_line(text);
+pub fn heading(text: &[u8]) -> bool {
+    whole_line(text)
 }
 
-// The first line of a section, after the empty line that parts it from the one before.
-pub fn section(text: &[u8]) {
-    whole_line(b"");
-    heading(text);
+// The empty line that parts a section from the one before.
+pub fn section_break() -> bool {
+    whole_line(b"")
+}
+
+// The first line of a section that is not the first.
+pub fn section(text: &[u8]) -> bool {
+    let good = section_break();
+    heading(text) & good
 }
 
 // The start of a line, with its first column.
@@ -38,31 +46,31 @@ fn label(line: &mut Line, text: &[u8]) -> usize {
 }
 
 // A number that is said of a ring or of a run.
-pub fn number_line(text: &[u8], n: u64) {
+pub fn number_line(text: &[u8], n: u64) -> bool {
     let mut line = [0u8; ROOM];
     let mut at = label(&mut line, text);
     at = number(&mut line, at, n);
-    end_line(&mut line, at);
+    end_line(&mut line, at)
 }
 
 // An answer, under a first column of the caller's.
-pub fn answer_line(text: &[u8], a: Answer) {
+pub fn answer_line(text: &[u8], a: Answer) -> bool {
     let mut line = [0u8; ROOM];
     let mut at = label(&mut line, text);
     at = answer(&mut line, at, answer_numbers(a));
-    end_line(&mut line, at);
+    end_line(&mut line, at)
 }
 
 // A digest, with a first column that has a number in it.
-pub fn digest_line(before: &[u8], n: u64, after: &[u8], digest: u32) {
+pub fn digest_line(before: &[u8], n: u64, after: &[u8], digest: u32) -> bool {
     let mut line = [0u8; ROOM];
     let mut at = word(&mut line, 0, b"  ");
     at = word(&mut line, at, before);
     at = number(&mut line, at, n);
     at = word(&mut line, at, after);
     at = pad(&mut line, at);
-    at = hex(&mut line, at, digest);
-    end_line(&mut line, at);
+    at = hex(&mut line, at, digest, DIGEST);
+    end_line(&mut line, at)
 }
 
 // The first column of a set-up's line.
@@ -78,11 +86,11 @@ fn fresh_label(line: &mut Line, pages: u32, slots: u32, mode: u32) -> usize {
 }
 
 // A set-up and its answer.
-pub fn fresh_line(pages: u32, slots: u32, mode: u32, a: Answer) {
+pub fn fresh_line(pages: u32, slots: u32, mode: u32, a: Answer) -> bool {
     let mut line = [0u8; ROOM];
     let mut at = fresh_label(&mut line, pages, slots, mode);
     at = answer(&mut line, at, answer_numbers(a));
-    end_line(&mut line, at);
+    end_line(&mut line, at)
 }
 
 fn begin_label(line: &mut Line, value: u32) -> usize {
@@ -101,16 +109,16 @@ fn action_label(line: &mut Line, action: Action) -> usize {
 }
 
 // An action and its answer.
-pub fn action_line(action: Action, a: Answer) {
-    numbers_line(action, answer_numbers(a));
+pub fn action_line(action: Action, a: Answer) -> bool {
+    numbers_line(action, answer_numbers(a))
 }
 
 // An action and its answer, where the answer was kept as its numbers.
-pub fn numbers_line(action: Action, n: Numbers) {
+pub fn numbers_line(action: Action, n: Numbers) -> bool {
     let mut line = [0u8; ROOM];
     let mut at = action_label(&mut line, action);
     at = answer(&mut line, at, n);
-    end_line(&mut line, at);
+    end_line(&mut line, at)
 }
 
 // The last page whose word the ring has room for: no function here asks that a ring is in shape.
@@ -142,16 +150,16 @@ fn words(line: &mut Line, at: usize, words: &[u32; 17], pages: u32) -> usize {
 }
 
 // The words of pages 0 to N.
-pub fn words_line(ring: Ring) {
+pub fn words_line(ring: Ring) -> bool {
     let mut line = [0u8; ROOM];
     let mut at = label(&mut line, b"words");
     let size = ring.size;
     at = words(&mut line, at, &ring.words, size.pages);
-    end_line(&mut line, at);
+    end_line(&mut line, at)
 }
 
 // Where the commit position stands.
-pub fn commit_line(ring: Ring) {
+pub fn commit_line(ring: Ring) -> bool {
     let places = ring.places;
     let mut line = [0u8; ROOM];
     let mut at = label(&mut line, b"commit");
@@ -159,17 +167,31 @@ pub fn commit_line(ring: Ring) {
     at = number(&mut line, at, places.commit.0 as u64);
     at = word(&mut line, at, b", index ");
     at = number(&mut line, at, places.index as u64);
-    end_line(&mut line, at);
+    end_line(&mut line, at)
 }
 
-// A trace's refusal, by its number, and where it stopped.
-pub fn trace_line(refusal: u32, stop: u64) {
+// A trace's refusal.
+pub fn trace_line(covers: Covers) -> bool {
     let mut line = [0u8; ROOM];
     let mut at = label(&mut line, b"trace");
-    at = refusal_name(&mut line, at, refusal);
-    if refusal == AT_BYTE {
-        at = word(&mut line, at, b" at byte ");
-        at = number(&mut line, at, stop);
-    }
-    end_line(&mut line, at);
+    at = trace_refusal(&mut line, at, covers);
+    end_line(&mut line, at)
+}
+
+// How many traces there are, and how many of each kind.
+pub fn totals_line(complete: u64, others: u64, refused: u64, unreadable: u64) -> bool {
+    let mut line = [0u8; ROOM];
+    let read = wrapping_add_u64(complete, others);
+    let all = wrapping_add_u64(wrapping_add_u64(read, refused), unreadable);
+    let mut at = many(&mut line, 0, all, b"trace");
+    at = word(&mut line, at, b": ");
+    at = number(&mut line, at, complete);
+    at = word(&mut line, at, b" complete, ");
+    at = number(&mut line, at, others);
+    at = word(&mut line, at, b" not complete, ");
+    at = number(&mut line, at, refused);
+    at = word(&mut line, at, b" refused, ");
+    at = number(&mut line, at, unreadable);
+    at = word(&mut line, at, b" unreadable");
+    end_line(&mut line, at)
 }

@@ -5,20 +5,20 @@ use crate::put::word;
 use ring::Numbers;
 use ring::codes::LAST_KIND;
 
-// A refusal by its number in the rules.
+// A refusal: its number in the rules and its name.
 pub(crate) fn refusal_name(line: &mut Line, at: usize, refusal: u32) -> usize {
     match refusal {
-        1 => word(line, at, b"refused 1 SHAPE"),
-        2 => word(line, at, b"refused 2 DEPTH"),
-        3 => word(line, at, b"refused 3 NOBODY"),
-        4 => word(line, at, b"refused 4 WORN"),
-        5 => word(line, at, b"refused 5 SETUP"),
-        6 => word(line, at, b"refused 6 MARK"),
-        7 => word(line, at, b"refused 7 VERSION"),
-        8 => word(line, at, b"refused 8 SIZES"),
-        9 => word(line, at, b"refused 9 ACTION"),
-        10 => word(line, at, b"refused 10 ROOM"),
-        _ => word(line, at, b"refused"),
+        1 => word(line, at, b"1 SHAPE"),
+        2 => word(line, at, b"2 DEPTH"),
+        3 => word(line, at, b"3 NOBODY"),
+        4 => word(line, at, b"4 WORN"),
+        5 => word(line, at, b"5 SETUP"),
+        6 => word(line, at, b"6 MARK"),
+        7 => word(line, at, b"7 VERSION"),
+        8 => word(line, at, b"8 SIZES"),
+        9 => word(line, at, b"9 ACTION"),
+        10 => word(line, at, b"10 ROOM"),
+        _ => number(line, at, refusal as u64),
     }
 }
 
@@ -56,7 +56,8 @@ pub(crate) fn name(line: &mut Line, at: usize, code: u32) -> usize {
     if code <= LAST_KIND {
         kind_name(line, at, code)
     } else {
-        refusal_name(line, at, code - LAST_KIND)
+        let to = word(line, at, b"refused ");
+        refusal_name(line, to, code - LAST_KIND)
     }
 }
 
@@ -74,15 +75,24 @@ fn two_values(line: &mut Line, at: usize, first: u64, second: u64) -> usize {
     word(line, to, b")")
 }
 
-// An answer from its numbers: its name, and in brackets the values that an answer of its kind has.
-pub(crate) fn answer(line: &mut Line, at: usize, n: Numbers) -> usize {
-    let code = n.code;
-    let to = name(line, at, code);
+// How many values an answer of this kind has.
+pub(crate) fn value_count(code: u32) -> u32 {
     match code {
         // Begun, Reserved, Committed
-        1 | 2 | 14 => one_value(line, to, n.first),
+        1 | 2 | 14 => 1,
         // Event
-        16 => two_values(line, to, n.first, n.second),
-        _ => to,
+        16 => 2,
+        _ => 0,
+    }
+}
+
+// An answer from its numbers: its name, and in brackets the values that an answer of its kind has.
+pub(crate) fn answer(line: &mut Line, at: usize, n: Numbers) -> usize {
+    let to = name(line, at, n.code);
+    let count = value_count(n.code);
+    match count {
+        0 => to,
+        1 => one_value(line, to, n.first),
+        _ => two_values(line, to, n.first, n.second),
     }
 }

@@ -1,6 +1,6 @@
 // What a line is made of: text, numbers and the spaces between columns. A line is put together in a buffer of its own and written whole at its end, so that
 // it is one write. Each function takes the line and a place in it, and answers the place after what it put. What does not fit is cut at the end of the buffer: the
-// longest line here, that of 17 words of ten digits, has 222 bytes. What cannot be written is left out, since a program has nobody to tell.
+// longest line here, that of 17 words of ten digits, has 222 bytes. Whoever writes answers whether all of it was written.
 ghost use Prim.Native.Nat.{_<_};
 use libc::STDOUT_FILENO;
 
@@ -13,7 +13,7 @@ pub(crate) type Line = [u8; ROOM];
 pub(crate) const SECOND: usize = 20;
 
 // One byte, or none where the buffer is full.
-fn byte(line: &mut Line, at: usize, b: u8) -> usize {
+pub(crate) fn byte(line: &mut Line, at: usize, b: u8) -> usize {
     if at < ROOM {
         line[at] = b;
         return at + 1;
@@ -55,6 +55,17 @@ pub(crate) fn number(line: &mut Line, at: usize, n: u64) -> usize {
     word(line, at, &digits[..k])
 }
 
+// So many of a thing: the word with an s, but for one.
+pub(crate) fn many(line: &mut Line, at: usize, n: u64, one: &[u8]) -> usize {
+    let mut to = number(line, at, n);
+    to = word(line, to, b" ");
+    to = word(line, to, one);
+    if n != 1 {
+        to = byte(line, to, b's');
+    }
+    to
+}
+
 // A number whose last digit stands before a place, or that starts here where there is no room for that.
 pub(crate) fn number_right(line: &mut Line, at: usize, n: u64, end: usize) -> usize {
     let mut digits = [0u8; 20];
@@ -66,10 +77,10 @@ pub(crate) fn number_right(line: &mut Line, at: usize, n: u64, end: usize) -> us
     word(line, to, &digits[..k])
 }
 
-// A number as eight hexadecimal digits.
-pub(crate) fn hex(line: &mut Line, at: usize, n: u32) -> usize {
+// A number as hexadecimal digits, at least so many.
+pub(crate) fn hex(line: &mut Line, at: usize, n: u32, width: usize) -> usize {
     let mut digits = [0u8; 16];
-    let k = io::hex(n as u64, 8, &mut digits);
+    let k = io::hex(n as u64, width, &mut digits);
     word(line, at, &digits[..k])
 }
 
@@ -81,23 +92,33 @@ fn last_place(at: usize) -> usize
 }
 
 // Writes the first n bytes of a text, or all of it where it is shorter.
-fn prefix(text: &[u8], n: usize) {
+fn write_prefix(fd: i32, text: &[u8], n: usize) -> bool {
     if n <= text.len() {
-        io::write_all(STDOUT_FILENO, &text[0..n]);
+        io::write_all(fd, &text[0..n])
     } else {
-        io::write_all(STDOUT_FILENO, text);
+        io::write_all(fd, text)
     }
 }
 
-// The newline, and the line written.
-pub(crate) fn end_line(line: &mut Line, at: usize) {
+// What was put so far, with no newline, written to a descriptor.
+pub(crate) fn write_part(fd: i32, line: &Line, at: usize) -> bool {
+    write_prefix(fd, line, at)
+}
+
+// The newline, and the line written to a descriptor.
+pub(crate) fn end_line_to(fd: i32, line: &mut Line, at: usize) -> bool {
     let last = last_place(at);
     line[last] = b'\n';
-    prefix(line, last + 1);
+    write_prefix(fd, line, last + 1)
+}
+
+// The newline, and the line written.
+pub(crate) fn end_line(line: &mut Line, at: usize) -> bool {
+    end_line_to(STDOUT_FILENO, line, at)
 }
 
 // A line of a text that may be longer than the buffer: it is written as it stands.
-pub(crate) fn whole_line(text: &[u8]) {
-    io::write_all(STDOUT_FILENO, text);
-    io::write_all(STDOUT_FILENO, b"\n");
+pub(crate) fn whole_line(text: &[u8]) -> bool {
+    let good = io::write_all(STDOUT_FILENO, text);
+    io::write_all(STDOUT_FILENO, b"\n") & good
 }

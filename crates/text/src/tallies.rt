@@ -34,23 +34,25 @@ pub fn count_answer(counts: &mut Tally, answer: Answer)
 }
 
 // The line of a kind that came, and none for one that did not.
-fn tally_line(code: u32, count: u64) {
+fn tally_line(code: u32, count: u64) -> bool {
     if count == 0 {
-        return;
+        return true;
     }
     let mut line = [0u8; ROOM];
     let mut at = word(&mut line, 0, b"  ");
     at = name(&mut line, at, code);
     at = pad(&mut line, at);
     at = number(&mut line, at, count);
-    end_line(&mut line, at);
+    end_line(&mut line, at)
 }
 
 // A line for each kind that came.
-pub fn tally(counts: &Tally) {
+pub fn tally(counts: &Tally) -> bool {
+    let mut good = true;
     let mut code: usize = 0;
     while code < KINDS {
-        tally_line(code as u32, counts[code]);
+        good = tally_line(code as u32, counts[code]) & good;
         code = code + 1;
     }
+    good
 }

@@ -6,10 +6,10 @@ use Rattle.replay.proofs.print.action_lines.Statement.{statement}
 use Rattle.replay.proofs.print.action_lines.Tie as tie
 
 abbrev Inv-loop : tie.InvT-loop
-Inv-loop bytes answers made count at₀ i₀ at i = 3 * count ≤ length answers
+Inv-loop bytes answers made table count good₀ at₀ i₀ good at i = 3 * count ≤ length answers
 
 abbrev μ-loop : tie.MeasureT-loop
-μ-loop bytes answers made count at₀ i₀ at i = count - i
+μ-loop bytes answers made table count good₀ at₀ i₀ good at i = count - i
 
 pub action-lines-spec : {M : Type 1} → statement M
 action-lines-spec =

@@ -6,10 +6,10 @@ use Rattle.text.proofs.tallies.tally.Statement.{statement}
 use Rattle.text.proofs.tallies.tally.Tie as tie
 
 abbrev Inv-loop : tie.InvT-loop
-Inv-loop counts code₀ code = Unit {0}
+Inv-loop counts good₀ code₀ good code = Unit {0}
 
 abbrev μ-loop : tie.MeasureT-loop
-μ-loop counts code₀ code = kinds - code
+μ-loop counts good₀ code₀ good code = kinds - code
 
 pub tally-spec : {M : Type 1} → statement M
 tally-spec =

@@ -1,10 +1,10 @@
--- `files::read_all` is safe and ends, and counts bytes of the buffer. The measure is what is left of the buffer, which stays as long as it is. Assumes nothing.
+-- `load::read_all` is safe and ends, and counts bytes of the buffer. The measure is what is left of the buffer, which stays as long as it is. Assumes nothing.
 use borrow.Author.Needs.{needs}
 use mathlib.Core.Path.{_≡_}
 use Prim.Native.Nat.{_-_, _^_, _≤_, _<_}
 use lib.ListN.{length}
-use Rattle.replay.proofs.files.read_all.Statement.{statement}
-use Rattle.replay.proofs.files.read_all.Tie as tie
+use Rattle.files.proofs.load.read_all.Statement.{statement}
+use Rattle.files.proofs.load.read_all.Tie as tie
 use Rattle.io.proofs.Counting.{counts}
 
 abbrev Inv-loop : tie.InvT-loop

@@ -1,9 +1,6 @@
-// The bytes of a file.
+// The bytes of a file, or of standard input.
 ghost use Rattle.io.specs.Counts.{Counts};
-use trace::parts::MOST_LENGTH;
-
-// How many bytes of a file are read: one more than a trace may have, so that a longer file is seen as such.
-pub const MOST: usize = MOST_LENGTH + 1;
+use libc::STDIN_FILENO;
 
 // What was read of a file.
 pub struct Loaded {
@@ -41,23 +38,40 @@ fn read_all(fd: i32, bytes: &mut [u8]) -> Loaded
     }
 }
 
-// The start of a file. Where it cannot be read, a line on standard error says why.
+// The line on standard error about a file that cannot be read, with the reason that the system gave last.
+fn complain(name: &[u8]) {
+    text::error_name(name);
+    os::fail(b"");
+}
+
+// The same of an open file.
+fn read_open(fd: i32, name: &[u8], bytes: &mut [u8]) -> Loaded
+    ensures { λ r. ⌜ Counts (r .count) (now (bytes .exit)) ⌝ }
+{
+    let loaded = read_all(fd, bytes);
+    if !loaded.good {
+        complain(name);
+    }
+    loaded
+}
+
+// As much of a file as the buffer has room for; the name - is standard input. Where it cannot be read, a line on standard error says why, and no byte is
+// counted.
 pub fn read_file(name: &[u8], bytes: &mut [u8]) -> Loaded
     ensures { λ r. ⌜ Counts (r .count) (now (bytes .exit)) ⌝ }
 {
+    if text::is_input(name) {
+        return read_open(STDIN_FILENO, name, bytes);
+    }
     let fd = os::open_read(name);
     if fd < 0 {
-        os::fail(name);
+        complain(name);
         return Loaded {
             good: false,
             count: 0,
         };
     }
-    let loaded = read_all(fd, bytes);
-    // before the file is closed, since that may change the system's reason
-    if !loaded.good {
-        os::fail(name);
-    }
+    let loaded = read_open(fd, name, bytes);
     libc::close(fd);
     loaded
 }
