@@ -10,6 +10,7 @@ mod demand;
 mod drain;
 mod drains;
 mod draws;
+mod kinds;
 mod random;
 mod replay;
 mod ring;

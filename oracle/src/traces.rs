@@ -8,6 +8,7 @@ use std::path::{Path, PathBuf};
 use crate::builder::Builder;
 use crate::demand::History;
 use crate::draws::Generator;
+use crate::kinds::Kinds;
 use crate::ring::{Action, Answer, Ring};
 use crate::samples;
 use crate::text::{self, Tally};
@@ -55,8 +56,7 @@ impl Due {
 /// answer came in them.
 struct Files {
     dir: PathBuf,
-    kinds: Vec<(&'static str, usize)>,
-    written: usize,
+    kinds: Kinds,
     tally: Tally,
     answers: Vec<u64>,
 }
@@ -65,8 +65,7 @@ pub fn run(dir: &Path) -> Result<String, String> {
     fs::create_dir_all(dir).map_err(|error| format!("{}: {error}", dir.display()))?;
     let mut files = Files {
         dir: dir.to_path_buf(),
-        kinds: Vec::new(),
-        written: 0,
+        kinds: Kinds::default(),
         tally: Tally::default(),
         answers: vec![0; 3 * LONGEST],
     };
@@ -83,12 +82,7 @@ pub fn run(dir: &Path) -> Result<String, String> {
     cut_headers(&mut files)?;
     changed(&mut files)?;
     files.tally.all_but(&UNREACHED)?;
-    let kinds: Vec<String> = files
-        .kinds
-        .iter()
-        .map(|(kind, times)| format!("{times} {kind}"))
-        .collect();
-    Ok(format!("{} traces: {}\n", files.written, kinds.join(", ")))
+    Ok(files.kinds.line("traces"))
 }
 
 /// Answers that no action of a trace gets: the set-up's two; 1, as a ring from a
@@ -109,15 +103,11 @@ const UNREACHED: [&str; 9] = [
 impl Files {
     /// Writes the next file, after its replay is found to be what is due.
     fn put(&mut self, kind: &'static str, bytes: &[u8], due: Option<Due>) -> Result<(), String> {
-        let number = self.written;
+        let number = self.kinds.all();
         self.hold(bytes, due)
             .map_err(|fails| format!("trace {number} ({kind}): {fails}"))?;
         samples::put(&self.dir.join(format!("{number:05}.ptr")), bytes)?;
-        self.written += 1;
-        match self.kinds.iter_mut().find(|(name, _)| *name == kind) {
-            Some((_, times)) => *times += 1,
-            None => self.kinds.push((kind, 1)),
-        }
+        self.kinds.count(kind);
         Ok(())
     }
 
