@@ -5,6 +5,7 @@ use self::Line::{Act, Commit, Committed, Depth, Fresh, Overwritten, ReaderPage, 
 use crate::builder::Builder;
 use crate::demand::must;
 use crate::drain;
+use crate::receipt;
 use crate::ring::Action::{Begin, Read, Write};
 use crate::ring::{Action, Answer, Receipt, Refusal, Ring};
 use crate::text::{self, LastAnswers, Tally};
@@ -245,9 +246,8 @@ fn run_line(out: &mut String, ring: &mut Ring, line: &Line) -> Result<(), String
         Depth(expected) => fact_line(out, "depth", ring.depth, expected),
         Committed(expected) => fact_line(out, "committed", ring.committed, expected),
         Line::Receipt(counts, complete) => {
-            let receipt = ring.receipt();
-            text::receipt(out, &receipt);
-            hold_receipt(&receipt, counts, complete)
+            receipt::of_ring(out, ring);
+            hold_receipt(&ring.receipt(), counts, complete)
         }
     }
 }
@@ -308,8 +308,8 @@ fn out_of_shape(out: &mut String) -> Result<(), String> {
         let refused = text::answer(Answer::Refused(Refusal::Shape));
         fact_line(out, &format!("drain of {length}"), last, refused)?;
     }
+    receipt::of_ring(out, &ring);
     let receipt = ring.receipt();
-    text::receipt(out, &receipt);
     let refused = receipt.refusal == Some(Refusal::Shape);
     if !refused || receipt.counts() != [0; 7] || receipt.complete {
         return Err("the receipt is not refused with zeros".to_string());
@@ -335,9 +335,8 @@ fn many_readings(out: &mut String) -> Result<(), String> {
     tally.print(out);
     let all = u64::from(READINGS);
     fact_line(out, "Event(i, i)", events, all)?;
-    let receipt = ring.receipt();
-    text::receipt(out, &receipt);
-    hold_receipt(&receipt, [all, all, all, 0, 0, 0, 0], true)
+    receipt::of_ring(out, &ring);
+    hold_receipt(&ring.receipt(), [all, all, all, 0, 0, 0, 0], true)
 }
 
 /// More than any one reading takes, so that a wrong ring ends too.
@@ -446,10 +445,9 @@ fn drained_evening(out: &mut String) -> Result<(), String> {
     evening.until_no_event(&mut ring)?;
     tally.print(out);
     evening.print(out)?;
-    let receipt = ring.receipt();
-    text::receipt(out, &receipt);
+    receipt::of_ring(out, &ring);
     let all = u64::from(READINGS);
-    hold_receipt(&receipt, [all, all, all, 0, 0, 0, 0], true)
+    hold_receipt(&ring.receipt(), [all, all, all, 0, 0, 0, 0], true)
 }
 
 /// "13 times `Begin 16843009` as a trace has it after its header", alone and with a byte 9

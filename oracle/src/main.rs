@@ -12,6 +12,7 @@ mod drains;
 mod draws;
 mod kinds;
 mod random;
+mod receipt;
 mod replay;
 mod ring;
 mod samples;

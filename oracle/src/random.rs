@@ -35,8 +35,8 @@ pub fn setup(i: u32) -> (u32, u32, u32) {
 /// The line of a group of lists whose first set-up is i.
 pub fn group_line(out: &mut String, i: u32, digest: &Digest) {
     let (n, _, mode) = setup(i);
-    let mode = if mode == 0 { "overwrite" } else { "stop" };
-    text::line(out, &format!("N = {n}, {mode}"), &digest.text());
+    let left = format!("N = {n}, {}", text::mode(mode));
+    text::line(out, &left, &digest.text());
 }
 
 fn lists(out: &mut String) -> Result<(), String> {

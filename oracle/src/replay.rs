@@ -4,6 +4,7 @@ use std::ffi::{OsStr, OsString};
 use std::fs::File;
 use std::io::{self, BufWriter, Read, Write};
 
+use crate::receipt;
 use crate::ring::Answer;
 use crate::text;
 use crate::trace::{self, TraceRefusal};
@@ -33,7 +34,7 @@ pub fn of_trace(bytes: &[u8]) -> String {
     if let Some(why) = replay.refusal {
         text::line(&mut out, "trace", &refusal(why));
     }
-    text::receipt(&mut out, &replay.ring.receipt());
+    receipt::of_ring(&mut out, &replay.ring);
     out
 }
 

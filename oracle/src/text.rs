@@ -1,6 +1,6 @@
-//! The text form of actions, answers, receipts and tallies (docs/PROGRAMS.md).
+//! The text form of actions, answers and tallies (docs/PROGRAMS.md).
 
-use crate::ring::{Action, Answer, Receipt, Refusal, Ring};
+use crate::ring::{Action, Answer, Refusal, Ring};
 
 /// The answers' names in the order of their codes.
 const NAMES: [&str; 33] = [
@@ -37,20 +37,6 @@ const NAMES: [&str; 33] = [
     "refused 8 SIZES",
     "refused 9 ACTION",
     "refused 10 ROOM",
-];
-
-/// What each count of a receipt is called and what it is of.
-const COUNTS: [(&str, &str); 7] = [
-    (
-        "begun",
-        "readings begun: taken, dropped, or still to be given a place",
-    ),
-    ("taken", "given a number and a place in the ring"),
-    ("handed", "of those taken, handed out"),
-    ("overwritten", "of those taken, lost to newer readings"),
-    ("dropped", "never taken, lost for want of room"),
-    ("waiting", "of those taken, finished and to be handed out"),
-    ("open", "of those taken, not finished yet"),
 ];
 
 /// "Refusals by number".
@@ -106,9 +92,14 @@ pub fn values(answer: Answer) -> (u32, u32) {
     }
 }
 
+/// The answer's name, or `refused K NAME`.
+pub fn name(answer: Answer) -> &'static str {
+    NAMES[code(answer) as usize]
+}
+
 /// The name with its values in brackets, as `Begun(1)` or `Event(1, 71)`.
 pub fn answer(answer: Answer) -> String {
-    let name = NAMES[code(answer) as usize];
+    let name = name(answer);
     match answer {
         Answer::Begun(x) | Answer::Reserved(x) | Answer::Committed(x) => format!("{name}({x})"),
         Answer::Event(number, value) => format!("{name}({number}, {value})"),
@@ -126,6 +117,14 @@ pub fn action(action: Action) -> String {
 
 pub fn fresh(n: u32, s: u32, mode: u32) -> String {
     format!("fresh({n}, {s}, {mode})")
+}
+
+/// The mode of a ring in shape, in a word.
+pub fn mode(mode: u32) -> &'static str {
+    match mode {
+        0 => "overwrite",
+        _ => "stop",
+    }
 }
 
 /// The words of pages 0 to N as `4, 1, 0`.
@@ -150,26 +149,6 @@ pub fn heading(out: &mut String, heading: &str) {
     }
     out.push_str(heading);
     out.push('\n');
-}
-
-pub fn receipt(out: &mut String, receipt: &Receipt) {
-    let refused = match receipt.refusal {
-        Some(refusal) => format!(": {}", answer(Answer::Refused(refusal))),
-        None => String::new(),
-    };
-    out.push_str(&format!("  Receipt{refused}\n"));
-    for ((label, of), count) in COUNTS.iter().zip(receipt.counts()) {
-        out.push_str(&format!("    {label:<14}{count:>10}   {of}\n"));
-    }
-    let (handed, begun) = (receipt.handed, receipt.begun);
-    let complete = if receipt.complete {
-        "complete"
-    } else {
-        "not complete"
-    };
-    out.push_str(&format!(
-        "    {handed} of {begun} readings handed out: {complete}\n"
-    ));
 }
 
 /// How often each kind of answer came.
