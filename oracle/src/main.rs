@@ -6,11 +6,15 @@
 
 mod builder;
 mod cases;
+mod console;
+mod day;
 mod demand;
 mod drain;
 mod drains;
 mod draws;
+mod forms;
 mod kinds;
+mod name;
 mod random;
 mod receipt;
 mod replay;
@@ -22,19 +26,18 @@ mod trace;
 mod traces;
 
 use std::env;
-use std::ffi::OsString;
 use std::io::{self, Write};
 use std::path::Path;
 use std::process::ExitCode;
 
-const USAGE: &str = "usage: oracle cases, random, replay FILE.., samples DIR or traces DIR";
+const USAGE: &str = "usage: oracle cases, random, replay FORM FILE.., samples DIR or traces DIR";
 
 fn main() -> ExitCode {
     let arguments: Vec<_> = env::args_os().skip(1).collect();
     let text = match arguments.as_slice() {
         [program] if program == "cases" => cases::run(),
         [program] if program == "random" => random::run(),
-        [program, files @ ..] if program == "replay" => return replay(files),
+        [program, called @ ..] if program == "replay" => return replay::run(called).into(),
         [program, dir] if program == "samples" => samples::run(Path::new(dir)),
         [program, dir] if program == "traces" => traces::run(Path::new(dir)),
         _ => return fail(USAGE, 2),
@@ -42,18 +45,6 @@ fn main() -> ExitCode {
     match text {
         Ok(text) => print(&text),
         Err(differs) => fail(&differs, 1),
-    }
-}
-
-fn replay(files: &[OsString]) -> ExitCode {
-    if files.is_empty() {
-        let _ = writeln!(io::stderr(), "replay: no file is named");
-        return ExitCode::from(2);
-    }
-    match replay::run(files) {
-        Ok(true) => ExitCode::SUCCESS,
-        Ok(false) => ExitCode::from(1),
-        Err(error) => fail(&format!("standard output: {error}"), 1),
     }
 }
 

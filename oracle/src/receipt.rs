@@ -1,21 +1,24 @@
-//! The receipt as it is printed: that of a ring (docs/PROGRAMS.md).
+//! The receipt as it is printed: that of a ring, and that of a trace (docs/PROGRAMS.md).
 //! What stands in quotes is the page's.
 
+use crate::day::{counted, label, Day};
+use crate::name::Name;
 use crate::ring::{Receipt, Ring};
 use crate::text;
+use crate::trace::TraceRefusal;
 
 /// "begun - taken - dropped".
-fn unplaced(receipt: &Receipt) -> u64 {
+pub fn unplaced(receipt: &Receipt) -> u64 {
     receipt.begun - receipt.taken - receipt.dropped
 }
 
 /// "Lost is overwritten + dropped".
-fn lost(receipt: &Receipt) -> u64 {
+pub fn lost(receipt: &Receipt) -> u64 {
     receipt.overwritten + receipt.dropped
 }
 
 /// "still in the logger is waiting + open + (begun - taken - dropped)".
-fn remaining(receipt: &Receipt) -> u64 {
+pub fn remaining(receipt: &Receipt) -> u64 {
     receipt.waiting + receipt.open + unplaced(receipt)
 }
 
@@ -36,17 +39,56 @@ pub fn of_ring(out: &mut String, ring: &Ring) {
     end(out, &receipt);
 }
 
+/// "`trace` and `length` are there where the receipt is that of a trace". "Where nothing
+/// was read, the ring is `none was set up`". "The receipt of a refused trace is no
+/// statement about the day."
+pub fn of_trace(out: &mut String, name: &Name, day: &Day) {
+    start(out, name);
+    head(out, "length", &day.length());
+    match day.replay.set_up {
+        Some((n, s, mode)) => head(out, "ring", &set_up(n, s, mode)),
+        None => head(out, "ring", "none was set up"),
+    }
+    let receipt = day.receipt();
+    match day.replay.refusal {
+        None => {
+            counts(out, &receipt, ALL);
+            end(out, &receipt);
+        }
+        Some(why @ TraceRefusal::Action(offset)) => {
+            counts(
+                out,
+                &receipt,
+                "each begun before the damage is accounted for",
+            );
+            let (places, why) = (places(&receipt), label(why));
+            out.push_str(&format!("    As far as byte {offset}: {places}\n"));
+            out.push_str(&format!(
+                "    Refused {why}: no statement about the day after that\n"
+            ));
+        }
+        Some(why) => {
+            counts(out, &receipt, "no reading was begun in what was read");
+            let why = label(why);
+            out.push_str(&format!("    Refused {why}: no statement about the day\n"));
+        }
+    }
+}
+
+/// "the three lines of a file that can't be read".
+pub fn of_unreadable(out: &mut String, name: &Name) {
+    start(out, name);
+    out.push_str("    Unreadable: no statement about the day\n");
+}
+
+fn start(out: &mut String, name: &Name) {
+    out.push_str("  Receipt\n");
+    name.line(out, &labelled("trace"));
+}
+
 /// "A label of the head (`trace`, `length`, `ring`) is padded to 10 characters."
 fn labelled(label: &str) -> String {
     format!("    {label:<10}")
-}
-
-/// "a number that is 1 has its word in the singular".
-fn counted(number: u64, word: &str) -> String {
-    match number {
-        1 => format!("1 {word}"),
-        _ => format!("{number} {word}s"),
-    }
 }
 
 fn head(out: &mut String, label: &str, what: &str) {
@@ -116,8 +158,47 @@ fn places(receipt: &Receipt) -> String {
 
 #[cfg(test)]
 mod tests {
+    use std::ffi::OsStr;
+
     use super::*;
     use crate::ring::LIMIT;
+    use crate::samples;
+
+    fn name() -> Name {
+        Name::of(OsStr::new("worked.ptr"))
+    }
+
+    /// The page's first receipt, that of K1 to K8, with the length that they have.
+    const WORKED: &str = "  Receipt
+    trace     worked.ptr
+    length    49 bytes, read whole
+    ring      2 pages of 1 slot, overwrite mode: the oldest readings give way
+    readings begun                                             3   begun
+      handed out                                               2   handed
+      lost to newer readings before they were fetched          1   overwritten
+      lost for want of room                                    0   dropped
+      finished and still in the logger                         0   waiting
+      not finished                                             0   open
+      begun and not yet given a place                          0   begun - taken - dropped
+    every reading begun is accounted for                       3   sum of these six
+    given a number and a place                                 3   taken
+    Not complete: 2 handed out, 1 lost, 0 still in the logger
+";
+
+    #[test]
+    fn worked() {
+        let builder = samples::paper(&["K1", "K2", "K3", "K4", "K5", "K6", "K7", "K8"]).unwrap();
+        let mut out = String::new();
+        of_trace(&mut out, &name(), &Day::of(&builder.bytes));
+        assert_eq!(out, WORKED);
+        let mut out = String::new();
+        of_ring(&mut out, &builder.ring);
+        let lines: Vec<_> = WORKED.lines().collect();
+        assert_eq!(
+            out.lines().collect::<Vec<_>>(),
+            [&lines[..1], &lines[3..]].concat()
+        );
+    }
 
     #[test]
     fn largest() {
@@ -148,5 +229,30 @@ mod tests {
         let refused = "    Refused 1 SHAPE: no statement about any reading; all counts are 0, \
                        not complete";
         assert_eq!(last(&ring), (2, refused.to_string()));
+    }
+
+    #[test]
+    fn damaged() {
+        let lines_of = |trace: &[u8]| {
+            let mut out = String::new();
+            of_trace(&mut out, &name(), &Day::of(trace));
+            out.lines().map(str::to_string).collect::<Vec<_>>()
+        };
+        let lines = lines_of(&[80, 84, 82, 1, 0, 2, 1, 0, 1, 70, 0, 0, 0, 2, 2, 2, 1, 1]);
+        let due = [
+            "    each begun before the damage is accounted for              1   sum of these six",
+            "    given a number and a place                                 1   taken",
+            "    As far as byte 16: 0 handed out, 0 lost, 1 still in the logger",
+            "    Refused 9 ACTION: no statement about the day after that",
+        ];
+        assert_eq!(lines[lines.len() - 4..], due);
+        let lines = lines_of(b"PT");
+        assert_eq!(lines[3], "    ring      none was set up");
+        let due = [
+            "    no reading was begun in what was read                      0   sum of these six",
+            "    given a number and a place                                 0   taken",
+            "    Refused 6 MARK: no statement about the day",
+        ];
+        assert_eq!(lines[lines.len() - 3..], due);
     }
 }

@@ -1,84 +1,62 @@
-//! `replay FILE..` (docs/PROGRAMS.md).
+//! `replay FORM FILE..` (docs/PROGRAMS.md). What stands in quotes is the page's.
 
-use std::ffi::{OsStr, OsString};
-use std::fs::File;
-use std::io::{self, BufWriter, Read, Write};
+use std::ffi::OsString;
+use std::io;
 
-use crate::receipt;
-use crate::ring::Answer;
-use crate::text;
-use crate::trace::{self, TraceRefusal};
+use crate::console::{self, Status};
+use crate::day::{Day, Outcome};
+use crate::forms::{Counts, Form};
+use crate::name::Name;
+use crate::trace::LONGEST;
 
-/// `refused 6 MARK` and so on.
-fn refusal(refusal: TraceRefusal) -> String {
-    match refusal {
-        TraceRefusal::Mark => "refused 6 MARK".to_string(),
-        TraceRefusal::Version => "refused 7 VERSION".to_string(),
-        TraceRefusal::Sizes => "refused 8 SIZES".to_string(),
-        TraceRefusal::Action(offset) => format!("refused 9 ACTION at byte {offset}"),
+pub fn run(arguments: &[OsString]) -> Status {
+    let Some((form, files)) = called(arguments) else {
+        console::tell("replay FORM FILE..");
+        return Status::Miscalled;
+    };
+    if form == Form::Csv && files.len() > 1 {
+        console::tell("csv takes one file");
+        return Status::Miscalled;
+    }
+    match replay(form, files) {
+        Ok(counts) if counts.all_whole() => Status::Whole,
+        Ok(_) => Status::Refused,
+        Err(_) => Status::Unwritten,
     }
 }
 
-/// What is printed of one trace: "each answer made, then a refusal if there is one,
-/// then the receipt".
-pub fn of_trace(bytes: &[u8]) -> String {
-    let replay = trace::replay(bytes);
-    let mut out = String::new();
-    if let Some((n, s, mode)) = replay.set_up {
-        let accepted = text::answer(Answer::Accepted);
-        text::line(&mut out, &text::fresh(n, s, mode), &accepted);
-    }
-    for (action, answer) in replay.made {
-        text::line(&mut out, &text::action(action), &text::answer(answer));
-    }
-    if let Some(why) = replay.refusal {
-        text::line(&mut out, "trace", &refusal(why));
-    }
-    receipt::of_ring(&mut out, &replay.ring);
-    out
+/// FORM and at least one FILE.
+fn called(arguments: &[OsString]) -> Option<(Form, &[OsString])> {
+    let (form, files) = arguments.split_first()?;
+    let form = Form::named(form)?;
+    (!files.is_empty()).then_some((form, files))
 }
 
-/// The file's bytes, no more of them than show that there are too many.
-fn read(file: &OsStr) -> io::Result<Vec<u8>> {
-    let mut bytes = Vec::new();
-    let most = trace::LONGEST as u64 + 1;
-    File::open(file)?.take(most).read_to_end(&mut bytes)?;
-    Ok(bytes)
-}
-
-/// "the name, a colon, a space and the system's reason"; Rust puts the error's number
-/// behind the system's words, and it is left out.
-fn complain(file: &OsStr, error: &io::Error) {
-    let reason = error.to_string();
-    let number = error.raw_os_error().map(|os| format!(" (os error {os})"));
-    let words = number.and_then(|number| reason.strip_suffix(&number));
-    let mut line = file.as_encoded_bytes().to_vec();
-    line.extend_from_slice(b": ");
-    line.extend_from_slice(words.unwrap_or(&reason).as_bytes());
-    line.push(b'\n');
-    let _ = io::stderr().write_all(&line);
-}
-
-/// The text of all files on standard output; yes where each of them could be read.
-pub fn run(files: &[OsString]) -> io::Result<bool> {
-    let mut out = BufWriter::with_capacity(1 << 16, io::stdout().lock());
-    let mut all = true;
-    for (i, file) in files.iter().enumerate() {
-        if files.len() > 1 {
-            if i > 0 {
-                out.write_all(b"\n")?;
-            }
-            out.write_all(file.as_encoded_bytes())?;
-            out.write_all(b"\n")?;
-        }
-        match read(file) {
-            Ok(bytes) => out.write_all(of_trace(&bytes).as_bytes())?,
+/// Replays each file and then prints what there is of it; "sections are parted by one
+/// empty line".
+fn replay(form: Form, files: &[OsString]) -> io::Result<Counts> {
+    let mut counts = Counts::default();
+    let mut parted = "";
+    for file in files {
+        let name = Name::of(file);
+        let day = match console::read(file, LONGEST) {
+            Ok(trace) => Some(Day::of(&trace)),
             Err(error) => {
-                complain(file, &error);
-                all = false;
+                console::tell_unreadable(&name, &error);
+                None
             }
+        };
+        let section = form.section(&name, day.as_ref());
+        console::write(format!("{parted}{section}").as_bytes())?;
+        parted = "\n";
+        let refusal = day.as_ref().and_then(Day::refusal);
+        if let (Form::Csv, Some(refusal)) = (form, refusal) {
+            console::tell(&format!("{name}: {refusal}"));
         }
+        counts.count(day.map_or(Outcome::Unreadable, |day| day.outcome()));
     }
-    out.flush()?;
-    Ok(all)
+    if let Some(section) = form.last_section(&counts) {
+        console::write(format!("{parted}{section}").as_bytes())?;
+    }
+    Ok(counts)
 }

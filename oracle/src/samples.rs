@@ -1,22 +1,29 @@
 //! `samples DIR`: small traces to look at, and what `replay` prints of each.
 
+use std::ffi::OsStr;
 use std::fs;
 use std::path::Path;
 
 use crate::builder::Builder;
 use crate::cases;
-use crate::replay;
+use crate::day::Day;
+use crate::forms::Form;
+use crate::name::Name;
 use crate::ring::Action::{Begin, Read, Write};
 use crate::trace;
 
-/// Writes NAME.ptr and NAME.txt for each sample.
+/// Writes NAME.ptr, NAME.replay and NAME.csv for each sample.
 pub fn run(dir: &Path) -> Result<String, String> {
     let samples = samples()?;
     fs::create_dir_all(dir).map_err(|error| format!("{}: {error}", dir.display()))?;
     for (name, bytes) in &samples {
-        put(&dir.join(format!("{name}.ptr")), bytes)?;
-        let text = replay::of_trace(bytes);
-        put(&dir.join(format!("{name}.txt")), text.as_bytes())?;
+        let put = |end, bytes: &[u8]| put(&dir.join(format!("{name}.{end}")), bytes);
+        put("ptr", bytes)?;
+        let day = Day::of(bytes);
+        let file = Name::of(OsStr::new(&format!("{name}.ptr")));
+        for (end, form) in [("replay", Form::Text), ("csv", Form::Csv)] {
+            put(end, form.section(&file, Some(&day)).as_bytes())?;
+        }
     }
     Ok(format!("{} samples\n", samples.len()))
 }
