@@ -1,9 +1,10 @@
 //! The ring's rules a second time, written from document 01 and not from the
 //! ring's code; where 01 leaves a point open, by docs/DECISIONS.md. The trace's are
-//! from request E1 of document 02, the drain's from E2. `oracle cases`, `oracle random`
-//! and `oracle replay` print the text of docs/PROGRAMS.md; `oracle samples` and `oracle
-//! traces` write files for `replay`.
+//! from request E1 of document 02, the drain's from E2. `oracle cases`, `random`,
+//! `replay` and `encode` print what docs/PROGRAMS.md says; `oracle samples` and `traces`
+//! write files for `replay`.
 
+mod actions;
 mod builder;
 mod cases;
 mod console;
@@ -12,6 +13,7 @@ mod demand;
 mod drain;
 mod drains;
 mod draws;
+mod encode;
 mod forms;
 mod kinds;
 mod name;
@@ -30,7 +32,8 @@ use std::io::{self, Write};
 use std::path::Path;
 use std::process::ExitCode;
 
-const USAGE: &str = "usage: oracle cases, random, replay FORM FILE.., samples DIR or traces DIR";
+const USAGE: &str =
+    "usage: oracle cases, random, replay FORM FILE.., encode FILE, samples DIR or traces DIR";
 
 fn main() -> ExitCode {
     let arguments: Vec<_> = env::args_os().skip(1).collect();
@@ -38,6 +41,7 @@ fn main() -> ExitCode {
         [program] if program == "cases" => cases::run(),
         [program] if program == "random" => random::run(),
         [program, called @ ..] if program == "replay" => return replay::run(called).into(),
+        [program, called @ ..] if program == "encode" => return encode::run(called).into(),
         [program, dir] if program == "samples" => samples::run(Path::new(dir)),
         [program, dir] if program == "traces" => traces::run(Path::new(dir)),
         _ => return fail(USAGE, 2),
