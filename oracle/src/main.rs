@@ -2,7 +2,7 @@
 //! ring's code; where 01 leaves a point open, by docs/DECISIONS.md. The trace's are
 //! from request E1 of document 02, the drain's from E2. `oracle cases`, `random`,
 //! `replay` and `encode` print what docs/PROGRAMS.md says; `oracle samples` and `traces`
-//! write files for `replay`.
+//! write files for `replay`, `oracle texts` for `encode`.
 
 mod actions;
 mod builder;
@@ -24,6 +24,7 @@ mod ring;
 mod samples;
 mod states;
 mod text;
+mod texts;
 mod trace;
 mod traces;
 
@@ -32,8 +33,8 @@ use std::io::{self, Write};
 use std::path::Path;
 use std::process::ExitCode;
 
-const USAGE: &str =
-    "usage: oracle cases, random, replay FORM FILE.., encode FILE, samples DIR or traces DIR";
+const USAGE: &str = "usage: oracle cases, random, replay FORM FILE.., encode FILE, samples DIR, \
+                     texts DIR or traces DIR";
 
 fn main() -> ExitCode {
     let arguments: Vec<_> = env::args_os().skip(1).collect();
@@ -43,6 +44,7 @@ fn main() -> ExitCode {
         [program, called @ ..] if program == "replay" => return replay::run(called).into(),
         [program, called @ ..] if program == "encode" => return encode::run(called).into(),
         [program, dir] if program == "samples" => samples::run(Path::new(dir)),
+        [program, dir] if program == "texts" => texts::run(Path::new(dir)),
         [program, dir] if program == "traces" => traces::run(Path::new(dir)),
         _ => return fail(USAGE, 2),
     };
