@@ -206,5 +206,5 @@ pub(crate) fn run() {
     text::number_line(b"in order", evening.in_order);
     text::number_line(b"kept", evening.kept);
     let after = evening.ring;
-    text::receipt(after.receipt());
+    text::receipt(after.size, after.receipt());
 }
