@@ -2,6 +2,7 @@
 use crate::steps::begin;
 use crate::steps::five_writes;
 use crate::steps::read;
+use crate::steps::show_words;
 use crate::steps::small_ring;
 use crate::steps::three_writes;
 use crate::steps::write;
@@ -10,7 +11,7 @@ use ring::Ring;
 fn k1() -> Ring {
     text::heading(b"K1");
     let mut ring = small_ring();
-    text::words_line(ring);
+    show_words(ring);
     ring = begin(ring, 70);
     three_writes(ring)
 }
@@ -19,7 +20,7 @@ fn k2(mut ring: Ring) -> Ring {
     text::section(b"K2");
     ring = begin(ring, 71);
     ring = five_writes(ring);
-    text::commit_line(ring);
+    text::commit_line(ring.places.commit.0, ring.places.index);
     ring
 }
 
@@ -28,7 +29,7 @@ fn k3(mut ring: Ring) -> Ring {
     ring = begin(ring, 72);
     ring = write(ring);
     ring = write(ring);
-    text::words_line(ring);
+    show_words(ring);
     text::number_line(b"overwritten", ring.counts.overwritten);
     ring
 }
@@ -41,9 +42,9 @@ fn k4(ring: Ring) -> Ring {
 fn k5(mut ring: Ring) -> Ring {
     text::section(b"K5");
     ring = write(ring);
-    text::words_line(ring);
+    show_words(ring);
     ring = write(ring);
-    text::words_line(ring);
+    show_words(ring);
     ring = write(ring);
     write(ring)
 }
@@ -52,9 +53,9 @@ fn k6(mut ring: Ring) -> Ring {
     text::section(b"K6");
     ring = read(ring);
     ring = read(ring);
-    text::words_line(ring);
+    show_words(ring);
     ring = read(ring);
-    text::words_line(ring);
+    show_words(ring);
     text::number_line(b"reader page", ring.places.reader.0 as u64);
     ring
 }
@@ -71,9 +72,9 @@ fn k8(mut ring: Ring) {
     ring = write(ring);
     ring = read(ring);
     ring = read(ring);
-    text::words_line(ring);
+    show_words(ring);
     ring = read(ring);
-    text::words_line(ring);
+    show_words(ring);
     ring = read(ring);
     text::receipt(ring.size, ring.receipt());
 }

@@ -42,3 +42,8 @@ pub(crate) fn fresh(pages: u32, slots: u32, mode: u32) -> Ring {
 pub(crate) fn small_ring() -> Ring {
     fresh(2, 1, Ring::OVERWRITE)
 }
+
+// The words of a ring's pages.
+pub(crate) fn show_words(ring: Ring) {
+    text::words_line(&ring.words, ring.size.pages);
+}

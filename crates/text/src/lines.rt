@@ -15,7 +15,6 @@ use crate::put::word;
 use ring::Action;
 use ring::Answer;
 use ring::Numbers;
-use ring::Ring;
 use ring::answer_numbers;
 use std::num::wrapping_add_u64;
 
@@ -150,23 +149,21 @@ fn words(line: &mut Line, at: usize, words: &[u32; 17], pages: u32) -> usize {
 }
 
 // The words of pages 0 to N.
-pub fn words_line(ring: Ring) -> bool {
+pub fn words_line(link_words: &[u32; 17], pages: u32) -> bool {
     let mut line = [0u8; ROOM];
     let mut at = label(&mut line, b"words");
-    let size = ring.size;
-    at = words(&mut line, at, &ring.words, size.pages);
+    at = words(&mut line, at, link_words, pages);
     end_line(&mut line, at)
 }
 
 // Where the commit position stands.
-pub fn commit_line(ring: Ring) -> bool {
-    let places = ring.places;
+pub fn commit_line(page: u32, index: u32) -> bool {
     let mut line = [0u8; ROOM];
     let mut at = label(&mut line, b"commit");
     at = word(&mut line, at, b"page ");
-    at = number(&mut line, at, places.commit.0 as u64);
+    at = number(&mut line, at, page as u64);
     at = word(&mut line, at, b", index ");
-    at = number(&mut line, at, places.index as u64);
+    at = number(&mut line, at, index as u64);
     end_line(&mut line, at)
 }
 

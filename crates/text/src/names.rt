@@ -22,14 +22,22 @@ pub(crate) fn refusal_name(line: &mut Line, at: usize, refusal: u32) -> usize {
     }
 }
 
-// The kind of an answer that is no refusal, by its code.
-fn kind_name(line: &mut Line, at: usize, code: u32) -> usize {
+// The kinds that are no refusal, by their code: in groups, since the proof of a match grows faster than its arms.
+
+// Of a set-up, a Begin, and a Write that wants a slot.
+fn first_name(line: &mut Line, at: usize, code: u32) -> usize {
     match code {
         0 => word(line, at, b"Accepted"),
         1 => word(line, at, b"Begun"),
         2 => word(line, at, b"Reserved"),
         3 => word(line, at, b"Looked"),
-        4 => word(line, at, b"Dropped"),
+        _ => word(line, at, b"Dropped"),
+    }
+}
+
+// Of a Write that takes the oldest page or goes on to the next.
+fn overwriting_name(line: &mut Line, at: usize, code: u32) -> usize {
+    match code {
         5 => word(line, at, b"Marked"),
         6 => word(line, at, b"Shared"),
         7 => word(line, at, b"Retry"),
@@ -37,10 +45,22 @@ fn kind_name(line: &mut Line, at: usize, code: u32) -> usize {
         9 => word(line, at, b"Standing"),
         10 => word(line, at, b"Cleared"),
         11 => word(line, at, b"Pushed"),
-        12 => word(line, at, b"Passed"),
+        _ => word(line, at, b"Passed"),
+    }
+}
+
+// Of a Write that has its slot.
+fn finishing_name(line: &mut Line, at: usize, code: u32) -> usize {
+    match code {
         13 => word(line, at, b"Filled"),
         14 => word(line, at, b"Committed"),
-        15 => word(line, at, b"Pending"),
+        _ => word(line, at, b"Pending"),
+    }
+}
+
+// Of a Read.
+fn read_name(line: &mut Line, at: usize, code: u32) -> usize {
+    match code {
         16 => word(line, at, b"Event"),
         17 => word(line, at, b"Empty"),
         18 => word(line, at, b"Found"),
@@ -49,6 +69,19 @@ fn kind_name(line: &mut Line, at: usize, code: u32) -> usize {
         21 => word(line, at, b"Swapped"),
         _ => word(line, at, b"Missed"),
     }
+}
+
+fn kind_name(line: &mut Line, at: usize, code: u32) -> usize {
+    if code <= 4 {
+        return first_name(line, at, code);
+    }
+    if code <= 12 {
+        return overwriting_name(line, at, code);
+    }
+    if code <= 15 {
+        return finishing_name(line, at, code);
+    }
+    read_name(line, at, code)
 }
 
 // The name of an answer's kind, by its code.
