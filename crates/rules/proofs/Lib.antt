@@ -2,6 +2,7 @@
 pub mod Limits
 pub mod Lists
 pub mod Cases
+pub mod Receipt
 -- demand 3: the invariant, the laws of its parts, what each step does to them, every list of actions, and the theorem
 pub mod invariant
 pub mod order

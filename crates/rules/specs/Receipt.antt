@@ -1,8 +1,10 @@
 -- The receipt.
 -- Assumes nothing.
+use mathlib.Core.Path.{_≡_}
 use mathlib.Core.Bool.{Bool, true, false, cond}
-use Prim.Native.Nat.{ℕ, _-_}
+use Prim.Native.Nat.{ℕ, _+_, _-_, _≤_}
 use lib.Dec.{eqb}
+use Rattle.rules.specs.Limits.{mostCount}
 use Rattle.rules.specs.Answers.{refusalNumber}
 use Rattle.rules.specs.Shape.{inShape}
 use Rattle.rules.specs.State.{State}
@@ -52,3 +54,30 @@ receiptRule r = cond (inShape r) (receiptOf (r .counts)) refusedReceipt
 -- "A fresh ring is complete, 0 of 0."
 abbrev pub freshReceipt : Receipt
 freshReceipt = receipt 0 0 0 0 0 0 0 0 true
+
+-- ---- where the readings begun are: a receipt adds up
+
+-- begun and not yet given a place
+abbrev pub unplaced : Receipt → ℕ
+unplaced r = r .begun - r .taken - r .dropped
+
+-- lost to newer readings, or for want of room
+abbrev pub lost : Receipt → ℕ
+lost r = r .overwritten + r .dropped
+
+-- still in the logger: finished, not finished, or not yet given a place
+abbrev pub remaining : Receipt → ℕ
+remaining r = r .waiting + r .«open» + unplaced r
+
+-- Every reading begun is handed out, lost or still in the logger, and those taken are handed out, overwritten, waiting or open; where the receipt is not
+-- refused, it is complete exactly when none is lost and none is still in the logger.
+pub record AddsUp (r : Receipt) : Type 0 where
+  pub begun : r .handed + lost r + remaining r ≡ r .begun
+  pub taken : r .handed + r .overwritten + r .waiting + r .«open» ≡ r .taken
+  pub small : r .begun ≤ mostCount
+  pub complete : r .refusal ≡ 0 → r .complete ≡ true → lost r + remaining r ≡ 0
+  pub none : r .refusal ≡ 0 → lost r + remaining r ≡ 0 → r .complete ≡ true
+
+-- of every state, in shape or not
+abbrev pub ReceiptsAddUp : Type 0
+ReceiptsAddUp = (s : State) → AddsUp (receiptRule s)

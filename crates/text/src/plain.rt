@@ -29,19 +29,12 @@ fn key_number(key: &[u8], n: u64) -> bool {
     end_line(&mut line, at)
 }
 
-fn read_key(covers: Covers) -> bool {
-    if covers.is_whole() {
-        key_word(b"read", b"whole")
+// One of two words.
+fn key_choice(key: &[u8], first: bool, one: &[u8], other: &[u8]) -> bool {
+    if first {
+        key_word(key, one)
     } else {
-        key_word(b"read", b"refused")
-    }
-}
-
-fn mode_key(mode: u32) -> bool {
-    if mode == Ring::STOP {
-        key_word(b"mode", b"stop")
-    } else {
-        key_word(b"mode", b"overwrite")
+        key_word(key, other)
     }
 }
 
@@ -50,7 +43,7 @@ fn ring_keys(covers: Covers, size: Size) -> bool {
     if covers.has_ring() {
         let mut good = key_number(b"pages", size.pages as u64);
         good = key_number(b"slots", size.slots as u64) & good;
-        return mode_key(size.mode) & good;
+        return key_choice(b"mode", size.mode == Ring::STOP, b"stop", b"overwrite") & good;
     }
     let mut good = key_number(b"pages", 0);
     good = key_number(b"slots", 0) & good;
@@ -70,24 +63,17 @@ fn count_keys(r: Receipt) -> bool {
     key_number(b"remaining", remaining(r)) & good
 }
 
-fn complete_key(complete: bool) -> bool {
-    if complete {
-        key_word(b"complete", b"yes")
-    } else {
-        key_word(b"complete", b"no")
-    }
-}
-
 // The receipt of a trace, or of what was read of it.
 pub fn plain_receipt(name: &[u8], covers: Covers, size: Size, r: Receipt) -> bool {
     let mut good = long_name_line(b"trace=", name);
     good = key_number(b"bytes", covers.bytes) & good;
-    good = read_key(covers) & good;
+    good = key_choice(b"read", covers.is_whole(), b"whole", b"refused") & good;
     good = key_number(b"refusal", covers.refusal as u64) & good;
     good = key_number(b"stop", covers.stop) & good;
     good = ring_keys(covers, size) & good;
     good = count_keys(r) & good;
-    complete_key(covers.is_whole() & r.complete) & good
+    let complete = covers.is_whole() & r.complete;
+    key_choice(b"complete", complete, b"yes", b"no") & good
 }
 
 // A file that can't be read.

@@ -1,7 +1,8 @@
 // The receipt, laid out so that it adds up: what it covers, the readings begun and the six places where a reading can be, their sum, and what follows.
 ghost use mathlib.Core.Path.{_≡_};
 ghost use Prim.Native.Nat.{_-_};
-ghost use Rattle.text.specs.Receipts.{unplaced, lost, remaining, sumOfSix};
+ghost use Rattle.rules.specs.Receipt.{unplaced, lost, remaining};
+ghost use Rattle.text.specs.Receipts.{word64, sumOfSix};
 use crate::covers::Covers;
 use crate::covers::extent;
 use crate::file_names::name_line;
@@ -40,14 +41,14 @@ pub fn unplaced(r: Receipt) -> u64
 
 // Lost, to newer readings or for want of room.
 pub fn lost(r: Receipt) -> u64
-    ensures { λ n. ⌜ n ≡ lost r ⌝ }
+    ensures { λ n. ⌜ n ≡ word64 (lost r) ⌝ }
 {
     wrapping_add_u64(r.overwritten, r.dropped)
 }
 
 // Still in the logger: finished, not finished, or not yet given a place.
 pub fn remaining(r: Receipt) -> u64
-    ensures { λ n. ⌜ n ≡ remaining r ⌝ }
+    ensures { λ n. ⌜ n ≡ word64 (remaining r) ⌝ }
 {
     let placed = wrapping_add_u64(r.waiting, r.open);
     wrapping_add_u64(placed, unplaced(r))
@@ -55,7 +56,7 @@ pub fn remaining(r: Receipt) -> u64
 
 // The six places together.
 pub fn sum_of_six(r: Receipt) -> u64
-    ensures { λ n. ⌜ n ≡ sumOfSix r ⌝ }
+    ensures { λ n. ⌜ n ≡ word64 (sumOfSix r) ⌝ }
 {
     let gone = wrapping_add_u64(r.handed, lost(r));
     wrapping_add_u64(gone, remaining(r))

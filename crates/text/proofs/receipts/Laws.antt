@@ -1,73 +1,40 @@
--- Every ring's receipt adds up, whatever the ring's state: of a ring in shape by the inequalities of its counts, of any other because all is 0.
+-- What is printed of a receipt is what it is: it adds up to the readings begun, which 64 bits hold with ease. And sums in 64 bits, for the functions
+-- that compute what is printed.
 -- Assumes nothing.
-use mathlib.Core.Path.{_≡_, refl}
-use mathlib.Core.Bool.{true}
-use Prim.Native.Nat.{ℕ, _+_, _≤_, _<_, _^_}
+use mathlib.Core.Path.{_≡_, _∙_}
+use Prim.Native.Nat.{ℕ, _+_, _≤_, _^_}
 use native.Mathlib.Omega.{arith}
-use borrow.Author.Tests.{eqb-true, eq-eqb}
+use native.Mathlib.Nat.{mod-add-mod, add-mod-mod}
 use Rattle.rules.specs.Limits.{mostCount}
-use Rattle.rules.specs.Shape.{inShape}
-use Rattle.rules.specs.Receipt.{receiptOf, refusedReceipt}
-use Rattle.rules.specs.declared.state.Counts.{Counts}
-use Rattle.rules.proofs.Lists.{by-bool}
-use Rattle.rules.proofs.shape.Laws.{in-shape}
-use Rattle.text.specs.Receipts.{sum, unplaced, AddsUp, ReceiptsAddUp}
+use Rattle.rules.specs.Receipt.{receiptRule, AddsUp}
+use Rattle.rules.specs.declared.state.Receipt.{Receipt}
+use Rattle.rules.proofs.Receipt.{receipts-add-up}
+use Rattle.text.specs.Receipts.{word64, Printed, ReceiptsPrinted}
 
--- a sum that does not run over
-sum-is : (a b : ℕ) → a + b < 2 ^ 64 → sum a b ≡ a + b
-sum-is a b l = omega arith
+-- ---- a sum of sums in 64 bits is the sum of all
 
--- what two sums are that come to nothing
-nothing : (l m x y : ℕ) → l ≡ x → m ≡ y → l + m ≡ 0 → x + y ≡ 0
-nothing l m x y p q e = omega arith
+pub sum-left : (a b : ℕ) → word64 (word64 a + b) ≡ word64 (a + b)
+sum-left a b = mod-add-mod a (2 ^ 64) b
 
--- of counts that are in shape
-counts-add-up :
-    (c : Counts) →
-    c .begun ≤ mostCount →
-    c .handed + c .overwritten ≤ c .committed →
-    c .committed ≤ c .taken →
-    c .taken + c .dropped ≤ c .begun →
-    AddsUp (receiptOf c)
-counts-add-up c b h t d =
-    let r = receiptOf c in
-    let numbered : r .handed + r .overwritten + r .waiting + r .«open» ≡ r .taken = omega arith in
-    let parts : r .handed + (r .overwritten + r .dropped) + (r .waiting + r .«open» + unplaced r) ≡ r .begun = omega arith in
-    let gone : sum (r .overwritten) (r .dropped) ≡ r .overwritten + r .dropped = sum-is _ _ (omega (arith, parts)) in
-    let placed : sum (r .waiting) (r .«open») ≡ r .waiting + r .«open» = sum-is _ _ (omega (arith, parts)) in
-    let left : sum (r .waiting + r .«open») (unplaced r) ≡ r .waiting + r .«open» + unplaced r = sum-is _ _ (omega (arith, parts)) in
-    let out : sum (r .handed) (r .overwritten + r .dropped) ≡ r .handed + (r .overwritten + r .dropped) = sum-is _ _ (omega (arith, parts)) in
-    let all : sum (r .handed + (r .overwritten + r .dropped)) (r .waiting + r .«open» + unplaced r) ≡ r .begun =
-    rw (sum-is (r .handed + (r .overwritten + r .dropped)) (r .waiting + r .«open» + unplaced r) (omega (arith, parts))) parts in
-    let rest : sum (sum (r .waiting) (r .«open»)) (unplaced r) ≡ r .waiting + r .«open» + unplaced r = rw placed left in
+pub sum-right : (a b : ℕ) → word64 (a + word64 b) ≡ word64 (a + b)
+sum-right a b = add-mod-mod a b (2 ^ 64)
+
+pub sum-of-three : (a b c : ℕ) → word64 (word64 (a + word64 b) + word64 c) ≡ word64 (a + b + c)
+sum-of-three a b c = rw (sum-right a b) (sum-left (a + b) (word64 c) ∙ sum-right (a + b) c)
+
+-- ---- what is printed
+
+-- a number that is at most a count's limit
+word-is : (n m : ℕ) → n ≤ m → m ≤ mostCount → word64 n ≡ n
+word-is n m l k = omega arith
+
+printed : (r : Receipt) → AddsUp r → Printed r
+printed r a =
     record {
-      begun = parts;
-      taken = numbered;
-      printed = rw (gone, placed, left, out) all;
-      lostIs = gone;
-      remainingIs = rest;
-      complete = λ z e. rw (gone, placed, left) (omega (arith, parts, eqb-true (c .begun) (c .handed) e));
-      incomplete = λ z e. eq-eqb (c .begun) (c .handed) (omega (arith, parts, nothing _ _ _ _ gone rest e));
+      lostIs = word-is _ (r .begun) (omega (arith, a .begun)) (a .small);
+      remainingIs = word-is _ (r .begun) (omega (arith, a .begun)) (a .small);
+      sumIs = rw (a .begun) (word-is (r .begun) (r .begun) (omega arith) (a .small));
     }
 
--- of a receipt that is refused
-refused-adds-up : AddsUp refusedReceipt
-refused-adds-up =
-    record {
-      begun = refl;
-      taken = refl;
-      printed = refl;
-      lostIs = refl;
-      remainingIs = refl;
-      complete = λ z e. refl;
-      incomplete = λ z e. absurd (omega (arith, z));
-    }
-
-pub receipts-add-up : ReceiptsAddUp
-receipts-add-up s =
-    by-bool
-    (inShape s)
-    (λ fits.
-      let i = in-shape s fits in
-      rw fits (counts-add-up (s .counts) (i .begun) (i .handed-overwritten) (i .committed-taken) (i .taken-dropped)))
-    (λ broken. rw broken refused-adds-up)
+pub receipts-printed : ReceiptsPrinted
+receipts-printed s = printed (receiptRule s) (receipts-add-up s)
