@@ -90,7 +90,11 @@ fn next_line(text: &[u8], from: usize, end: usize) -> usize
     requires { ⌜ (from < length (now text)) × (from ≤ end) ⌝ }
     ensures { λ r. ⌜ from < r ⌝ }
 {
-    if end < text.len() { end + 1 } else { text.len() }
+    if end < text.len() {
+        end + 1
+    } else {
+        text.len()
+    }
 }
 
 // What all lines gave: a place in the trace past its start, where one said something.

@@ -14,11 +14,17 @@ pub enum Status {
     NotWritten,
 }
 
-pub fn tell(status: Status) {
+fn digit(status: Status) -> u8 {
     match status {
-        Status::Whole => io::write_all(STATUS_FILENO, b"0"),
-        Status::Refused => io::write_all(STATUS_FILENO, b"1"),
-        Status::WrongUse => io::write_all(STATUS_FILENO, b"2"),
-        Status::NotWritten => io::write_all(STATUS_FILENO, b"3"),
-    };
+        Status::Whole => b'0',
+        Status::Refused => b'1',
+        Status::WrongUse => b'2',
+        Status::NotWritten => b'3',
+    }
+}
+
+// The digit, and nothing more.
+pub fn tell(status: Status) {
+    let byte = [digit(status)];
+    io::write_all(STATUS_FILENO, &byte);
 }

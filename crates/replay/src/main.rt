@@ -31,7 +31,13 @@ fn form_asked() -> Form {
 }
 
 // The file that argument i names.
-fn show_named(form: Form, i: usize, name: &mut [u8], bytes: &mut [u8], answers: &mut [u64]) -> Totals {
+fn show_named(
+    form: Form,
+    i: usize,
+    name: &mut [u8],
+    bytes: &mut [u8],
+    answers: &mut [u64],
+) -> Totals {
     let n = os::arg(i, name);
     let parted = show_break(i == FIRST_FILE);
     parted.and(show_file(form, &name[..n], bytes, answers))

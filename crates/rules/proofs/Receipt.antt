@@ -44,6 +44,6 @@ receipts-add-up s =
     by-bool
     (inShape s)
     (λ fits.
-      let i = in-shape s fits in
-      rw fits (counts-add-up (s .counts) (i .begun) (i .handed-overwritten) (i .committed-taken) (i .taken-dropped)))
+    let i = in-shape s fits in
+    rw fits (counts-add-up (s .counts) (i .begun) (i .handed-overwritten) (i .committed-taken) (i .taken-dropped)))
     (λ broken. rw broken refused-adds-up)

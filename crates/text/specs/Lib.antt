@@ -1,4 +1,5 @@
--- What the text's numbers are, and which name is no file's.
+-- What the text's numbers are, what a refusal leaves of a trace, and which name is no file's.
 pub mod Tallies
 pub mod Receipts
+pub mod Covers
 pub mod FileNames

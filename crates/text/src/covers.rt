@@ -1,4 +1,6 @@
 // What a receipt is of: a ring, or what was read of a trace.
+ghost use mathlib.Core.Path.{_≡_};
+ghost use Rattle.text.specs.Covers.{isWhole, hasRing};
 use crate::names::refusal_name;
 use crate::put::Line;
 use crate::put::many;
@@ -22,12 +24,17 @@ pub struct Covers {
 }
 
 impl Covers {
-    pub fn is_whole(self) -> bool {
+    // Whether the trace was not refused.
+    pub fn is_whole(self) -> bool
+        ensures { λ r. ⌜ r ≡ isWhole (self .refusal) ⌝ }
+    {
         self.refusal == 0
     }
 
     // Whether a ring was set up: a trace that is refused for its actions has a set-up all the same.
-    pub fn has_ring(self) -> bool {
+    pub fn has_ring(self) -> bool
+        ensures { λ r. ⌜ r ≡ hasRing (self .refusal) ⌝ }
+    {
         (self.refusal == 0) | (self.refusal == ACTION)
     }
 }

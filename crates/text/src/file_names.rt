@@ -149,7 +149,11 @@ fn place_after(name: &[u8], i: usize, shown: usize) -> usize
 }
 
 fn fits(at: usize, width: usize) -> bool {
-    if at <= WIDTH { width <= WIDTH - at } else { false }
+    if at <= WIDTH {
+        width <= WIDTH - at
+    } else {
+        false
+    }
 }
 
 // Room for a piece: where the line has none, it is written, and the name goes on in the next line or, where it does not wrap, in the same one.
@@ -186,7 +190,11 @@ fn pieces(line: &mut Line, from: usize, name: &[u8], target: Target) -> Placed {
 pub fn is_input(name: &[u8]) -> bool
     ensures { λ r. ⌜ r ≡ isInput (now (name .entry)) ⌝ }
 {
-    if name.len() == 1 { name[0] == b'-' } else { false }
+    if name.len() == 1 {
+        name[0] == b'-'
+    } else {
+        false
+    }
 }
 
 // A name, from a place of a line on.

@@ -79,19 +79,13 @@ fn count_line(text: &[u8], count: u64, name: &[u8]) -> bool {
 fn count_lines(r: Receipt, accounted: &[u8]) -> bool {
     let mut good = count_line(b"readings begun", r.begun, b"begun");
     good = count_line(b"  handed out", r.handed, b"handed") & good;
-    good = count_line(
-        b"  lost to newer readings before they were fetched",
-        r.overwritten,
-        b"overwritten",
-    ) & good;
+    let overwritten = b"  lost to newer readings before they were fetched";
+    good = count_line(overwritten, r.overwritten, b"overwritten") & good;
     good = count_line(b"  lost for want of room", r.dropped, b"dropped") & good;
     good = count_line(b"  finished and still in the logger", r.waiting, b"waiting") & good;
     good = count_line(b"  not finished", r.open, b"open") & good;
-    good = count_line(
-        b"  begun and not yet given a place",
-        unplaced(r),
-        b"begun - taken - dropped",
-    ) & good;
+    let none = b"  begun and not yet given a place";
+    good = count_line(none, unplaced(r), b"begun - taken - dropped") & good;
     good = count_line(accounted, sum_of_six(r), b"sum of these six") & good;
     count_line(b"given a number and a place", r.taken, b"taken") & good
 }
@@ -177,13 +171,11 @@ fn whole_lines(size: Size, r: Receipt) -> bool {
 // The receipt of a ring.
 pub fn receipt(size: Size, r: Receipt) -> bool {
     let good = heading();
-    if r.refusal != 0 {
-        return refused_line(
-            r.refusal,
-            b": no statement about any reading; all counts are 0, not complete",
-        ) & good;
+    if r.refusal == 0 {
+        return whole_lines(size, r) & good;
     }
-    whole_lines(size, r) & good
+    let nothing = b": no statement about any reading; all counts are 0, not complete";
+    refused_line(r.refusal, nothing) & good
 }
 
 // The trace that a receipt is of.
