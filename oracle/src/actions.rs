@@ -44,7 +44,9 @@ impl fmt::Display for Refused {
 impl fmt::Display for Reason {
     fn fmt(&self, f: &mut fmt::Formatter<'_>) -> fmt::Result {
         f.write_str(match self {
-            Reason::Unknown => "fresh N S MODE, begin VALUE, write or read is wanted",
+            Reason::Unknown => {
+                "fresh N S MODE, begin VALUE (0 to 4294967295), write or read is wanted"
+            }
             Reason::Order => "fresh N S MODE is wanted first, and once",
             Reason::Sizes => "refused 8 SIZES: N is 2 to 16, S 1 to 16, mode overwrite or stop",
             Reason::Length => "refused 6 MARK: the trace is longer than 65536 bytes",

@@ -6,6 +6,8 @@ use std::fmt;
 
 /// "a name that would make the line longer than 100 bytes goes on in the next line".
 const WIDEST: usize = 100;
+/// "goes on in the next line, after 14 spaces".
+const ASIDE: usize = 14;
 
 /// The pieces of a name as it is printed; "what stands for one byte or one character of
 /// the name is never parted".
@@ -39,14 +41,14 @@ impl Name {
     }
 
     /// A line of the forms `text` and `receipt` that ends in the name; where it is too
-    /// long, the name "goes on in the next line, under its first character".
+    /// long, the name "goes on in the next line, after 14 spaces".
     pub fn line(&self, out: &mut String, before: &str) {
         out.push_str(before);
         let mut width = before.len();
         for piece in &self.pieces {
             if width + piece.len() > WIDEST {
-                width = before.len();
-                out.push_str(&format!("\n{:width$}", ""));
+                width = ASIDE;
+                out.push_str(&format!("\n{:ASIDE$}", ""));
             }
             out.push_str(piece);
             width += piece.len();
@@ -68,15 +70,20 @@ fn escaped(byte: u8) -> String {
 }
 
 /// "`\\` for a backslash and `\xNN` ... for each byte that is below 32 or 127, or that is
-/// no part of a well-formed UTF-8 character, or is part of one from U+0080 to U+009F".
-/// These characters are those of `char::is_control`.
+/// no part of a well-formed UTF-8 character, or is part of one from U+0080 to U+009F,
+/// U+2028 to U+202E or U+2066 to U+2069". The first of these, and the bytes, are those
+/// of `char::is_control`.
+fn is_escaped(character: char) -> bool {
+    character.is_control() || matches!(character, '\u{2028}'..='\u{202e}' | '\u{2066}'..='\u{2069}')
+}
+
 fn pieces(bytes: &[u8]) -> Vec<String> {
     let mut pieces = Vec::new();
     for chunk in bytes.utf8_chunks() {
         for character in chunk.valid().chars() {
             match character {
                 '\\' => pieces.push("\\\\".to_string()),
-                _ if character.is_control() => {
+                _ if is_escaped(character) => {
                     let mut bytes = [0; 4];
                     let bytes = character.encode_utf8(&mut bytes).bytes();
                     pieces.extend(bytes.map(escaped));
@@ -119,6 +126,10 @@ mod tests {
         for (bytes, due) in [
             ("é€😀\u{a0}\u{feff}".as_bytes(), "é€😀\u{a0}\u{feff}"),
             ("\u{80}\u{9f}".as_bytes(), "\\xc2\\x80\\xc2\\x9f"),
+            ("\u{2027}\u{2028}".as_bytes(), "\u{2027}\\xe2\\x80\\xa8"),
+            ("\u{202e}\u{202f}".as_bytes(), "\\xe2\\x80\\xae\u{202f}"),
+            ("\u{2065}\u{2066}".as_bytes(), "\u{2065}\\xe2\\x81\\xa6"),
+            ("\u{2069}\u{206a}".as_bytes(), "\\xe2\\x81\\xa9\u{206a}"),
             (b"\xffa\xe2\x82", "\\xffa\\xe2\\x82"),
             (b"\xc0\xaf\xe0\x80\x80", "\\xc0\\xaf\\xe0\\x80\\x80"),
             (b"\xed\xa0\x80\xed\x9f\xbf", "\\xed\\xa0\\x80\u{d7ff}"),
@@ -147,9 +158,9 @@ mod tests {
         let fits = "n".repeat(94);
         assert_eq!(line(fits.as_bytes(), "Trace "), format!("Trace {fits}\n"));
         let over = format!("{fits}o");
-        let due = format!("Trace {fits}\n      o\n");
+        let due = format!("Trace {fits}\n              o\n");
         assert_eq!(line(over.as_bytes(), "Trace "), due);
-        let lines = line(&[b'n'; 94 * 3], "Trace ");
+        let lines = line(&[b'n'; 94 + 86 * 2], "Trace ");
         assert_eq!(lines.lines().count(), 3);
     }
 
@@ -158,16 +169,16 @@ mod tests {
         let start = "n".repeat(92);
         for (end, due) in [("\\", "\\\\"), ("é", "é")] {
             let name = format!("{start}{end}o");
-            let due = format!("Trace {start}{due}\n      o\n");
+            let due = format!("Trace {start}{due}\n              o\n");
             assert_eq!(line(name.as_bytes(), "Trace "), due);
         }
         for (end, due) in [("\n", "\\x0a"), ("€", "€")] {
             let name = format!("{start}{end}o");
-            let due = format!("Trace {start}\n      {due}o\n");
+            let due = format!("Trace {start}\n              {due}o\n");
             assert_eq!(line(name.as_bytes(), "Trace "), due);
         }
         let name = format!("{}\u{80}", &start[..90]);
-        let due = format!("Trace {}\\xc2\n      \\x80\n", &start[..90]);
+        let due = format!("Trace {}\\xc2\n              \\x80\n", &start[..90]);
         assert_eq!(line(name.as_bytes(), "Trace "), due);
     }
 }

@@ -12,9 +12,6 @@ use write::Why;
 use write::Written;
 use write::write_text;
 
-// Linux passes no longer argument where its memory pages have 4 KiB, so a name is not cut there. A longer one is an empty name, which no file has.
-const NAME: usize = 131072;
-
 // How many bytes of a text are read: one more than a text may have, so that a longer one is seen as such.
 const BYTES: usize = MOST_TEXT + 1;
 
@@ -26,7 +23,7 @@ fn complain_of_line(name: &[u8], why: Why, n: u64) {
         Why::Unknown => text::error_at_line(
             name,
             n,
-            b"fresh N S MODE, begin VALUE, write or read is wanted",
+            b"fresh N S MODE, begin VALUE (0 to 4294967295), write or read is wanted",
         ),
         Why::Order => text::error_at_line(name, n, b"fresh N S MODE is wanted first, and once"),
         Why::Sizes => text::error_at_line(
@@ -60,7 +57,7 @@ fn encode_text(name: &[u8], bytes: &[u8]) -> Status {
     Status::Refused
 }
 
-// The start of the trace's room, as far as it was filled.
+// The start of the trace's room, as far as it was filled. (The encoder fills no more than there is; the test is for the part alone.)
 fn write_out(out: &[u8], end: usize) -> Status {
     if out.len() < end {
         return Status::Refused;
@@ -88,14 +85,8 @@ fn encode_file(name: &[u8]) -> Status {
     encode_text(name, &bytes[..n])
 }
 
-fn name_buffer() -> [u8; NAME]
-    ensures { λ r. ⌜ 131072 ≡ length r ⌝ }
-{
-    [0u8; NAME]
-}
-
 fn encode_argument() -> Status {
-    let mut name = name_buffer();
+    let mut name = files::name_buffer();
     let n = os::arg(1, &mut name);
     encode_file(&name[..n])
 }

@@ -28,24 +28,28 @@ pub enum Form {
     Receipt,
     // the receipt as lines of key=value
     Plain,
-    // no form
+}
+
+// The form that a word names, or none.
+pub enum Asked {
+    Is(Form),
     Other,
 }
 
-pub fn form_named(name: &[u8]) -> Form {
+pub fn form_named(name: &[u8]) -> Asked {
     if files::is_word(name, b"text") {
-        return Form::Text;
+        return Asked::Is(Form::Text);
     }
     if files::is_word(name, b"csv") {
-        return Form::Csv;
+        return Asked::Is(Form::Csv);
     }
     if files::is_word(name, b"receipt") {
-        return Form::Receipt;
+        return Asked::Is(Form::Receipt);
     }
     if files::is_word(name, b"plain") {
-        return Form::Plain;
+        return Asked::Is(Form::Plain);
     }
-    Form::Other
+    Asked::Other
 }
 
 // What is told of a trace beside its actions.
@@ -131,7 +135,6 @@ fn show_trace(form: Form, name: &[u8], bytes: &[u8], answers: &mut [u64]) -> Tot
         Form::Csv => csv_form(name, bytes, answers, told),
         Form::Receipt => receipt_form(name, told),
         Form::Plain => plain_form(name, told),
-        Form::Other => true,
     };
     let covers = told.covers;
     let receipt = told.receipt;
@@ -148,7 +151,6 @@ fn show_unreadable(form: Form, name: &[u8]) -> Totals {
         Form::Csv => text::csv_heading(),
         Form::Receipt => text::unreadable_receipt(name),
         Form::Plain => text::plain_unreadable(name),
-        Form::Other => true,
     };
     one_unreadable(good)
 }
@@ -176,11 +178,25 @@ pub fn show_end(form: Form, all: Totals) -> Totals {
     let good = match form {
         Form::Receipt => {
             let parted = text::section_break();
-            text::totals_line(all.complete, all.others, all.refused, all.unreadable) & parted
+            text::totals_line(
+                all.count(),
+                all.complete,
+                all.incomplete,
+                all.refused,
+                all.unreadable,
+            )
+                & parted
         }
         Form::Plain => {
             let parted = text::section_break();
-            text::plain_totals(all.complete, all.others, all.refused, all.unreadable) & parted
+            text::plain_totals(
+                all.count(),
+                all.complete,
+                all.incomplete,
+                all.refused,
+                all.unreadable,
+            )
+                & parted
         }
         _ => true,
     };

@@ -3,10 +3,10 @@ mod print; // a replay as text, or as a table
 mod forms; // a trace in each form
 mod totals; // how many traces of each kind
 
-ghost use mathlib.Core.Path.{_≡_};
-ghost use lib.ListN.{length};
+use files::NAME;
 use files::Status;
 use forms::ANSWERS;
+use forms::Asked;
 use forms::BYTES;
 use forms::Form;
 use forms::form_named;
@@ -17,14 +17,11 @@ use libc::STDERR_FILENO;
 use totals::Totals;
 use totals::no_traces;
 
-// Linux passes no longer argument where its memory pages have 4 KiB, so a name is not cut there. A longer one is an empty name, which no file has.
-const NAME: usize = 131072;
-
 // The form's name is argument 1, and the files follow.
 const FIRST_FILE: usize = 2;
 
 // The form that argument 1 names.
-fn form_asked() -> Form {
+fn form_asked() -> Asked {
     let mut buffer = [0u8; 16];
     let n = os::arg(1, &mut buffer);
     form_named(&buffer[..n])
@@ -53,15 +50,9 @@ fn show_argument(
     show_named(form, i, name, bytes, answers)
 }
 
-fn name_buffer() -> [u8; NAME]
-    ensures { λ r. ⌜ 131072 ≡ length r ⌝ }
-{
-    [0u8; NAME]
-}
-
 // All files; the room for their bytes and answers is made once.
 fn show_files(form: Form, count: usize) -> Totals {
-    let mut name = name_buffer();
+    let mut name = files::name_buffer();
     let mut bytes = [0u8; BYTES];
     let mut answers = [0u64; ANSWERS];
     let mut totals = no_traces();
@@ -79,22 +70,26 @@ fn wrong_use(line: &[u8]) -> Status {
     Status::WrongUse
 }
 
+// A table has no column for a name, so that it is of one file.
+fn too_many(form: Form, count: usize) -> bool {
+    match form {
+        Form::Csv => FIRST_FILE + 1 < count,
+        _ => false,
+    }
+}
+
 fn run(count: usize) -> Status {
-    let form = form_asked();
+    let asked = form_asked();
+    let Asked::Is(form) = asked else {
+        return wrong_use(b"ring: replay FORM FILE..\n");
+    };
     if count <= FIRST_FILE {
         return wrong_use(b"ring: replay FORM FILE..\n");
     }
-    match form {
-        Form::Other => wrong_use(b"ring: replay FORM FILE..\n"),
-        Form::Csv => {
-            if FIRST_FILE + 1 < count {
-                wrong_use(b"ring: csv takes one file\n")
-            } else {
-                show_files(form, count).status()
-            }
-        }
-        _ => show_files(form, count).status(),
+    if too_many(form, count) {
+        return wrong_use(b"ring: csv takes one file\n");
     }
+    show_files(form, count).status()
 }
 
 fn main() {

@@ -1,11 +1,13 @@
 // How many traces there are of each kind, and whether all of the text was written.
+ghost use mathlib.Core.Path.{_≡_};
+ghost use Rattle.replay.specs.Totals.{statusOf};
 use files::Status;
 use std::num::wrapping_add_u64;
 
 pub struct Totals {
     pub complete: u64,
     // read whole, and not complete
-    pub others: u64,
+    pub incomplete: u64,
     pub refused: u64,
     pub unreadable: u64,
     // whether all was written
@@ -15,7 +17,7 @@ pub struct Totals {
 pub fn no_traces() -> Totals {
     Totals {
         complete: 0,
-        others: 0,
+        incomplete: 0,
         refused: 0,
         unreadable: 0,
         written: true,
@@ -30,7 +32,7 @@ pub fn one_trace(whole: bool, complete: bool, written: bool) -> Totals {
     } else if complete {
         one.complete = 1;
     } else {
-        one.others = 1;
+        one.incomplete = 1;
     }
     one.written = written;
     one
@@ -54,14 +56,22 @@ impl Totals {
     pub fn and(self, more: Totals) -> Totals {
         Totals {
             complete: wrapping_add_u64(self.complete, more.complete),
-            others: wrapping_add_u64(self.others, more.others),
+            incomplete: wrapping_add_u64(self.incomplete, more.incomplete),
             refused: wrapping_add_u64(self.refused, more.refused),
             unreadable: wrapping_add_u64(self.unreadable, more.unreadable),
             written: self.written & more.written,
         }
     }
 
-    pub fn status(self) -> Status {
+    // How many traces there are.
+    pub fn count(self) -> u64 {
+        let read = wrapping_add_u64(self.complete, self.incomplete);
+        wrapping_add_u64(wrapping_add_u64(read, self.refused), self.unreadable)
+    }
+
+    pub fn status(self) -> Status
+        ensures { λ r. ⌜ r ≡ statusOf self ⌝ }
+    {
         if !self.written {
             return Status::NotWritten;
         }

@@ -17,7 +17,6 @@ fn start(line: &mut Line, name: &[u8]) -> usize {
     let target = Target {
         fd: STDERR_FILENO,
         wraps: false,
-        column: 0,
     };
     let placed = put_name(line, at, name, target);
     placed.at

@@ -1,5 +1,5 @@
-// A file's name as it is printed. A name is any bytes: a control character, what is no UTF-8 and a space at its end are escaped, so that a name is
-// never taken for a line of the text, and a long name goes on in the next line.
+// A file's name as it is printed. A name is any bytes: a control character, what is no UTF-8, what turns a line round and a space at an end are escaped,
+// so that a name is never taken for a line of the text, and a long name goes on in the next line.
 ghost use mathlib.Core.Path.{_≡_};
 ghost use Prim.Native.Nat.{_<_};
 ghost use lib.ListN.{length};
@@ -21,11 +21,13 @@ const WIDTH: usize = 100;
 // What an escaped byte is printed as: \xNN.
 const ESCAPED: usize = 4;
 
-// Where a name is printed: the descriptor, whether what does not fit goes on in a line of its own, and the column where it goes on.
+// Where a name goes on that does not fit: where no other line begins, so that no part of it is taken for one.
+const ASIDE: usize = 14;
+
+// Where a name is printed: the descriptor, and whether what does not fit goes on in a line of its own.
 pub(crate) struct Target {
     pub fd: i32,
     pub wraps: bool,
-    pub column: usize,
 }
 
 // A line that is being put together: the place after what was put, and whether all before it could be written.
@@ -77,6 +79,13 @@ fn later_fits(b: u8, place: usize, count: usize) -> bool {
     (count <= place) | ((128 <= b) & (b <= 191))
 }
 
+// Whether a character ends a line, or turns its direction: U+2028 to U+202E, and U+2066 to U+2069.
+fn turns(first: u8, second: u8, third: u8) -> bool {
+    let ends = (second == 128) & (168 <= third) & (third <= 174);
+    let isolates = (second == 129) & (166 <= third) & (third <= 169);
+    (first == 226) & (ends | isolates)
+}
+
 // Whether a place is the last of the name.
 fn is_last(name: &[u8], i: usize) -> bool {
     if name.len() <= i {
@@ -98,10 +107,16 @@ fn shown_length(name: &[u8], i: usize) -> usize {
     if count == 1 {
         return if is_plain(name, i, first) { 1 } else { 0 };
     }
-    let fits = second_fits(first, byte_after(name, i, 1))
-        & later_fits(byte_after(name, i, 2), 2, count)
+    let second = byte_after(name, i, 1);
+    let third = byte_after(name, i, 2);
+    let fits = second_fits(first, second)
+        & later_fits(third, 2, count)
         & later_fits(byte_after(name, i, 3), 3, count);
-    if fits { count } else { 0 }
+    if fits & !turns(first, second, third) {
+        count
+    } else {
+        0
+    }
 }
 
 // How many bytes are printed for a character, or for a byte that is escaped.
@@ -163,7 +178,7 @@ fn make_room(line: &mut Line, at: usize, width: usize, target: Target) -> Placed
     }
     if target.wraps {
         let good = end_line_to(target.fd, line, at);
-        let to = fill(line, 0, target.column);
+        let to = fill(line, 0, ASIDE);
         return Placed { at: to, good };
     }
     let good = write_part(target.fd, line, at);
@@ -208,27 +223,14 @@ pub(crate) fn put_name(line: &mut Line, from: usize, name: &[u8], target: Target
     pieces(line, from, name, target)
 }
 
-// A line that has a name in it: what stands before the name, and the name. Where it does not fit, it goes on under its first character.
-pub(crate) fn name_line(before: &[u8], name: &[u8]) -> bool {
+// A line that has a name in it: what stands before the name, and the name. Where it does not fit, it goes on in the next line or, where it does not
+// wrap, in the same one.
+pub(crate) fn name_line(before: &[u8], name: &[u8], wraps: bool) -> bool {
     let mut line = [0u8; ROOM];
     let at = word(&mut line, 0, before);
     let target = Target {
         fd: STDOUT_FILENO,
-        wraps: true,
-        column: at,
-    };
-    let placed = put_name(&mut line, at, name, target);
-    end_line(&mut line, placed.at) & placed.good
-}
-
-// The same in one line, however long.
-pub(crate) fn long_name_line(before: &[u8], name: &[u8]) -> bool {
-    let mut line = [0u8; ROOM];
-    let at = word(&mut line, 0, before);
-    let target = Target {
-        fd: STDOUT_FILENO,
-        wraps: false,
-        column: 0,
+        wraps,
     };
     let placed = put_name(&mut line, at, name, target);
     end_line(&mut line, placed.at) & placed.good
@@ -236,5 +238,5 @@ pub(crate) fn long_name_line(before: &[u8], name: &[u8]) -> bool {
 
 // The heading of a trace's section.
 pub fn trace_heading(name: &[u8]) -> bool {
-    name_line(b"Trace ", name)
+    name_line(b"Trace ", name, true)
 }

@@ -16,7 +16,6 @@ use ring::Action;
 use ring::Answer;
 use ring::Numbers;
 use ring::answer_numbers;
-use std::num::wrapping_add_u64;
 
 // How many hexadecimal digits a digest has.
 const DIGEST: usize = 8;
@@ -176,15 +175,19 @@ pub fn trace_line(covers: Covers) -> bool {
 }
 
 // How many traces there are, and how many of each kind.
-pub fn totals_line(complete: u64, others: u64, refused: u64, unreadable: u64) -> bool {
+pub fn totals_line(
+    all: u64,
+    complete: u64,
+    incomplete: u64,
+    refused: u64,
+    unreadable: u64,
+) -> bool {
     let mut line = [0u8; ROOM];
-    let read = wrapping_add_u64(complete, others);
-    let all = wrapping_add_u64(wrapping_add_u64(read, refused), unreadable);
     let mut at = many(&mut line, 0, all, b"trace");
     at = word(&mut line, at, b": ");
     at = number(&mut line, at, complete);
     at = word(&mut line, at, b" complete, ");
-    at = number(&mut line, at, others);
+    at = number(&mut line, at, incomplete);
     at = word(&mut line, at, b" not complete, ");
     at = number(&mut line, at, refused);
     at = word(&mut line, at, b" refused, ");

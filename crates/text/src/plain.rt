@@ -1,6 +1,6 @@
 // The receipt as lines of key=value, for scripts.
 use crate::covers::Covers;
-use crate::file_names::long_name_line;
+use crate::file_names::name_line;
 use crate::put::ROOM;
 use crate::put::end_line;
 use crate::put::number;
@@ -11,7 +11,6 @@ use crate::receipts::unplaced;
 use ring::Receipt;
 use ring::Ring;
 use rules::state::Size;
-use std::num::wrapping_add_u64;
 
 fn key_word(key: &[u8], value: &[u8]) -> bool {
     let mut line = [0u8; ROOM];
@@ -65,7 +64,7 @@ fn count_keys(r: Receipt) -> bool {
 
 // The receipt of a trace, or of what was read of it.
 pub fn plain_receipt(name: &[u8], covers: Covers, size: Size, r: Receipt) -> bool {
-    let mut good = long_name_line(b"trace=", name);
+    let mut good = name_line(b"trace=", name, false);
     good = key_number(b"bytes", covers.bytes) & good;
     good = key_choice(b"read", covers.is_whole(), b"whole", b"refused") & good;
     good = key_number(b"refusal", covers.refusal as u64) & good;
@@ -78,17 +77,21 @@ pub fn plain_receipt(name: &[u8], covers: Covers, size: Size, r: Receipt) -> boo
 
 // A file that can't be read.
 pub fn plain_unreadable(name: &[u8]) -> bool {
-    let good = long_name_line(b"trace=", name);
+    let good = name_line(b"trace=", name, false);
     key_word(b"read", b"unreadable") & good
 }
 
 // How many traces there are, and how many of each kind.
-pub fn plain_totals(complete: u64, others: u64, refused: u64, unreadable: u64) -> bool {
-    let read = wrapping_add_u64(complete, others);
-    let all = wrapping_add_u64(wrapping_add_u64(read, refused), unreadable);
+pub fn plain_totals(
+    all: u64,
+    complete: u64,
+    incomplete: u64,
+    refused: u64,
+    unreadable: u64,
+) -> bool {
     let mut good = key_number(b"traces", all);
     good = key_number(b"traces_complete", complete) & good;
-    good = key_number(b"traces_not_complete", others) & good;
+    good = key_number(b"traces_not_complete", incomplete) & good;
     good = key_number(b"traces_refused", refused) & good;
     key_number(b"traces_unreadable", unreadable) & good
 }

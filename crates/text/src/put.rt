@@ -1,5 +1,5 @@
 // What a line is made of: text, numbers and the spaces between columns. A line is put together in a buffer of its own and written whole at its end, so that
-// it is one write. Each function takes the line and a place in it, and answers the place after what it put. What does not fit is cut at the end of the buffer: the
+// it is one write, but for a text that is printed as it stands and a name that is longer than the buffer. Each function takes the line and a place in it, and answers the place after what it put. What does not fit is cut at the end of the buffer: the
 // longest line here, that of 17 words of ten digits, has 222 bytes. Whoever writes answers whether all of it was written.
 ghost use Prim.Native.Nat.{_<_};
 use libc::STDOUT_FILENO;

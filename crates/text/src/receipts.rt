@@ -181,7 +181,7 @@ pub fn receipt(size: Size, r: Receipt) -> bool {
 // The trace that a receipt is of.
 fn covers_lines(name: &[u8], covers: Covers) -> bool {
     let mut good = heading();
-    good = name_line(b"    trace     ", name) & good;
+    good = name_line(b"    trace     ", name, true) & good;
     let mut line = [0u8; ROOM];
     let mut at = word(&mut line, 0, b"    length    ");
     at = extent(&mut line, at, covers);
@@ -207,6 +207,6 @@ pub fn trace_receipt(name: &[u8], covers: Covers, size: Size, r: Receipt) -> boo
 // What stands for the receipt of a file that can't be read.
 pub fn unreadable_receipt(name: &[u8]) -> bool {
     let mut good = heading();
-    good = name_line(b"    trace     ", name) & good;
+    good = name_line(b"    trace     ", name, true) & good;
     whole_line(b"    Unreadable: no statement about the day") & good
 }

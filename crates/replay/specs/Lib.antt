@@ -1,0 +1,2 @@
+-- What the program tells at its end.
+pub mod Totals
