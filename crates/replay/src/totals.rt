@@ -72,13 +72,14 @@ impl Totals {
     pub fn status(self) -> Status
         ensures { λ r. ⌜ r ≡ statusOf self ⌝ }
     {
-        if !self.written {
-            return Status::NotWritten;
-        }
-        if (self.refused == 0) & (self.unreadable == 0) {
-            Status::Whole
+        if self.written {
+            if (self.refused == 0) & (self.unreadable == 0) {
+                Status::Whole
+            } else {
+                Status::Refused
+            }
         } else {
-            Status::Refused
+            Status::NotWritten
         }
     }
 }
