@@ -1,5 +1,6 @@
 // What a line of a text of actions says: its words, parted by blanks, up to a comment.
 ghost use Prim.Native.Nat.{_≤_};
+ghost use lib.ListN.{length};
 use ring::Action;
 use ring::Ring;
 
@@ -195,11 +196,14 @@ fn words_say(line: &[u8]) -> Said {
     Said::Unknown
 }
 
-// The place of a line's comment, or its end.
-fn comment(line: &[u8]) -> usize {
-    let mut i: usize = 0;
-    while i < line.len() {
-        if line[i] == b'#' {
+// The place of the first such byte from a place on, or the end.
+pub(crate) fn find(bytes: &[u8], from: usize, wanted: u8) -> usize
+    requires { ⌜ from ≤ length (now bytes) ⌝ }
+    ensures { λ r. ⌜ (from ≤ r) × (r ≤ length (now (bytes .entry))) ⌝ }
+{
+    let mut i = from;
+    while i < bytes.len() {
+        if bytes[i] == wanted {
             return i;
         }
         i = i + 1;
@@ -207,11 +211,8 @@ fn comment(line: &[u8]) -> usize {
     i
 }
 
-// What a line says.
+// What a line says, up to its comment.
 pub fn line_says(line: &[u8]) -> Said {
-    let end = comment(line);
-    if end < line.len() {
-        return words_say(&line[0..end]);
-    }
-    words_say(line)
+    let end = find(line, 0, b'#');
+    words_say(&line[0..end])
 }

@@ -2,6 +2,7 @@
 ghost use Prim.Native.Nat.{_≤_, _<_};
 ghost use lib.ListN.{length};
 use crate::line::Said;
+use crate::line::find;
 use crate::line::line_says;
 use ring::Action;
 use std::num::wrapping_add_u64;
@@ -70,21 +71,6 @@ fn take_line(out: &mut [u8], at: usize, line: &[u8]) -> Taken {
     }
 }
 
-// The place of the newline that ends the line at a place, or the end of the text.
-fn line_end(text: &[u8], from: usize) -> usize
-    requires { ⌜ from < length (now text) ⌝ }
-    ensures { λ r. ⌜ (from ≤ r) × (r ≤ length (now (text .entry))) ⌝ }
-{
-    let mut i = from;
-    while i < text.len() {
-        if text[i] == b'\n' {
-            return i;
-        }
-        i = i + 1;
-    }
-    i
-}
-
 // Where the line after this one starts, or the end of the text.
 fn next_line(text: &[u8], from: usize, end: usize) -> usize
     requires { ⌜ (from < length (now text)) × (from ≤ end) ⌝ }
@@ -112,7 +98,7 @@ pub fn write_text(text: &[u8], out: &mut [u8]) -> Written {
     let mut number: u64 = 0;
     let mut from: usize = 0;
     while from < text.len() {
-        let end = line_end(text, from);
+        let end = find(text, from, b'\n');
         number = wrapping_add_u64(number, 1);
         let taken = take_line(out, at, &text[from..end]);
         match taken {
