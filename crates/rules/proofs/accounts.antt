@@ -11,5 +11,6 @@ pub mod Mark
 pub mod Push
 pub mod Fill
 pub mod Pop
+pub mod Commit
 pub mod Event
 pub mod Swap

@@ -9,6 +9,7 @@ pub mod Clear
 pub mod Push
 pub mod Fill
 pub mod Pop
+pub mod Commit
 pub mod Find
 pub mod Prepare
 pub mod Swap

@@ -157,7 +157,9 @@ k10 A B C =
     ∷ row (Begin C ∷ Write ∷ Write ∷ Write ∷ Write ∷ Write ∷ [])
     (Begun 2 ∷ Looked ∷ Pushed ∷ Reserved (reading 1) ∷ Filled ∷ Pending ∷ [])
     []
-    ∷ row (Write ∷ []) (Dropped ∷ []) (DepthIs 0 ∷ CommittedIs 0 ∷ [])
+    -- E3: "K10 now ends with commit (page 1, index 1), committed 2, answer still Dropped"
+    ∷ row (Write ∷ []) (Dropped ∷ [])
+    (DepthIs 0 ∷ CommitAt 1 1 ∷ CommittedIs 2 ∷ ReceiptIs (receipt 0 3 2 0 0 1 2 0 false) ∷ [])
     ∷ [])
 
 unfoldable pub k11 : ℕ → ℕ → ℕ → ℕ → ℕ → Case

@@ -4,6 +4,7 @@
 use mathlib.Core.Bool.{true, false, cond}
 use mathlib.Core.List.{List, [], _∷_, _++_}
 use Prim.Native.Nat.{ℕ, _+_, _-_}
+use lib.Dec.{eqb}
 use lib.ListN.{length, getD, take}
 use Rattle.rules.specs.State.{top, State}
 use Rattle.rules.specs.Words.{samePage}
@@ -42,17 +43,25 @@ onReserved number h = withReadings (h .readings ++ (numbered number (latest (h .
 abbrev pub onEnded : History → History
 onEnded h = withWorking (others (h .working)) h
 
-abbrev pub onDropped : History → History
-onDropped h = onEnded (withDroppers (h .droppers ++ (latest (h .working) ∷ [])) h)
-
 -- every reading numbered so far, now committed
 abbrev pub allCommitted : List Numbered → List Numbered
 allCommitted [] = []
 allCommitted (x ∷ rest) = numbered (x .number) (x .own) true ∷ allCommitted rest
 
+abbrev pub withAllCommitted : History → History
+withAllCommitted h = withReadings (allCommitted (h .readings)) h
+
 -- "A reading is committed when an answer Committed has come after its Reserved."
 abbrev pub onCommitted : History → History
-onCommitted h = onEnded (withReadings (allCommitted (h .readings)) h)
+onCommitted h = onEnded (withAllCommitted h)
+
+-- the latest begun writer at work is dropped
+abbrev pub withDropper : History → History
+withDropper h = withDroppers (h .droppers ++ (latest (h .working) ∷ [])) h
+
+-- E3: "a drop at depth 1 .. counts as an answer Committed": depth 1 is told by who is at work, the one that is dropped alone
+abbrev pub onDropped : History → History
+onDropped h = cond (eqb (length (h .working)) 1) (onCommitted (withDropper h)) (onEnded (withDropper h))
 
 abbrev pub onEvent : ℕ → ℕ → History → History
 onEvent number v h = withEvents (h .events ++ (readEvent number v ∷ [])) h

@@ -13,7 +13,7 @@ pub record BegunWriter : Type 0 where
   pub value : ℕ
 
 -- "A reading is numbered when a Reserved gave its number: that writer is its own, and its value is the one in that writer's Begin." It is
--- "committed when an answer Committed has come after its Reserved".
+-- "committed when an answer Committed has come after its Reserved"; a drop of the only writer at work counts as one (E3).
 pub record Numbered : Type 0 where
   pub number : ℕ
   pub own : BegunWriter

@@ -21,22 +21,26 @@ use Rattle.rules.specs.declared.state.Answer.the-variants as answer
 use Rattle.rules.specs.declared.moves.Search.{Search}
 use Rattle.rules.specs.declared.moves.Search.the-variants.{At, Nowhere}
 use Rattle.rules.specs.declared.moves.Move.{Move}
-use Rattle.rules.specs.declared.moves.Move.the-variants.{Become, Reserve, Drop, Mark, Promote, Clear, Push, Fill, Pend, Commit}
+use Rattle.rules.specs.declared.moves.Move.the-variants.{Become, Reserve, Drop, DropCommit, Mark, Promote, Clear, Push, Fill, Pend, Commit}
 
 -- ---- which rule applies
 
+-- a drop: E3 tells the drop at depth 1 from one that is deeper
+abbrev pub planDrop : ℕ → Move
+planDrop depth = cond (eqb depth 1) DropCommit Drop
+
 -- t full: "First that applies", for a page n and a flag
-abbrev pub planFull : Size → Places → PageNo → ℕ → Move
-planFull size places n flag =
+abbrev pub planFull : Size → Places → ℕ → PageNo → ℕ → Move
+planFull size places depth n flag =
     first
     -- a. t is the reader page: PUSH (t, n).
     ((samePage (places .tail) (places .reader), Become (phase.Push (places .tail) n) answer.Looked)
     -- b. n is the commit page: drop.
-    ∷ (samePage n (places .commit), Drop)
+    ∷ (samePage n (places .commit), planDrop depth)
     -- c. flag HEADER and the commit page is the reader page: drop.
-    ∷ (eqb flag headerFlag && readerOnCommit places, Drop)
+    ∷ (eqb flag headerFlag && readerOnCommit places, planDrop depth)
     -- d. flag HEADER, stop mode: drop.
-    ∷ (eqb flag headerFlag && eqb (size .mode) stopMode, Drop)
+    ∷ (eqb flag headerFlag && eqb (size .mode) stopMode, planDrop depth)
     -- e. flag HEADER or UPDATE: MARK (t, n).
     ∷ (eqb flag headerFlag || eqb flag updateFlag, Become (phase.Mark (places .tail) n) answer.Looked)
     ∷ [])
@@ -44,11 +48,11 @@ planFull size places n flag =
     (Become (phase.Push (places .tail) n) answer.Looked)
 
 -- "WANT, tail page t with used < S": the slot is the one whose number is t's used. "WANT, t full: n is the page in t's word", and the flag is that word's.
-abbrev pub planWant : Size → Places → List ℕ → List ℕ → Move
-planWant size places words used =
+abbrev pub planWant : Size → Places → ℕ → List ℕ → List ℕ → Move
+planWant size places depth words used =
     cond (ltb (usedAt used (places .tail)) (size .slots))
     (Reserve (places .tail) (usedAt used (places .tail)))
-    (planFull size places (pageIn (wordAt words (places .tail))) (flagIn (wordAt words (places .tail))))
+    (planFull size places depth (pageIn (wordAt words (places .tail))) (flagIn (wordAt words (places .tail))))
 
 -- "MARK: if t's word is n HEADER ... If it is n UPDATE: PROMOTE (t, n, not own). Answer Shared. Otherwise WANT, answer Retry."
 abbrev pub planMark : PageNo → PageNo → List ℕ → Move
@@ -91,7 +95,7 @@ planFilled depth = cond (eqb depth 1) Commit Pend
 
 -- "Write moves the top record by one step": by the record's phase
 abbrev pub planPhase : WriterPhase → Size → Places → ℕ → List ℕ → List ℕ → Move
-planPhase phase.Want size places depth words used = planWant size places words used
+planPhase phase.Want size places depth words used = planWant size places depth words used
 planPhase (phase.Mark t n) size places depth words used = planMark t n words
 planPhase (phase.Promote t n own) size places depth words used = planPromote size places t n own words
 planPhase (phase.Clear t n) size places depth words used = planClear t n words
@@ -111,9 +115,18 @@ reserve t slot r =
     withTaken (r .counts .taken + 1)
     (setUsed t (slot + 1) (setNumber t slot (r .counts .taken) (setPhase (phase.Held t slot) r)))
 
--- "Dropped: dropped + 1, record popped, nothing else."
+-- "Dropped: dropped + 1, record popped", and nothing else where the drop is deeper than depth 1
 abbrev pub drop : State → State
 drop r = withDropped (r .counts .dropped + 1) (pop r)
+
+-- "the commit page becomes the tail page, the commit index that page's used, committed becomes taken": the outermost writer's commit, and its drop
+abbrev pub commitTaken : State → State
+commitTaken r =
+    withCommitPage (r .places .tail) (withCommitIndex (usedAt (r .used) (r .places .tail)) (withCommitted (r .counts .taken) r))
+
+-- E3: "a drop at depth 1 moves commit page, commit index and committed exactly as a commit there does, after counting the drop"
+abbrev pub dropCommit : State → State
+dropCommit r = commitTaken (drop r)
 
 -- "it becomes n UPDATE, overwritten grows by n's used, n's used becomes 0, all in one step ...; PROMOTE (t, n, own)."
 abbrev pub mark : PageNo → PageNo → State → State
@@ -137,18 +150,16 @@ push n r = withTail n (setPhase phase.Want r)
 abbrev pub fill : PageNo → ℕ → State → State
 fill p slot r = setValue p slot (top r .value) (setPhase phase.Filled r)
 
--- "the commit page becomes the tail page, the commit index that page's used, committed becomes taken".
--- "Only a commit by the outermost writer moves the commit position."
+-- "FILLED: record popped. At depth 1 before the pop, the commit page becomes the tail page, .."
 abbrev pub commit : State → State
-commit r =
-    withCommitPage (r .places .tail)
-    (withCommitIndex (usedAt (r .used) (r .places .tail)) (withCommitted (r .counts .taken) (pop r)))
+commit r = commitTaken (pop r)
 
 -- each rule's answer, with the ring that it leaves: "Answer Reserved(number)", "Dropped", "Answer Marked", and so on; Committed tells committed, which is now taken
 abbrev pub moved : Move → State → Outcome
 moved (Become next a) r = gives a (setPhase next r)
 moved (Reserve t slot) r = gives (answer.Reserved (reading (r .counts .taken))) (reserve t slot r)
 moved Drop r = gives answer.Dropped (drop r)
+moved DropCommit r = gives answer.Dropped (dropCommit r)
 moved (Mark t n) r = gives answer.Marked (mark t n r)
 moved (Promote n next) r = gives answer.Promoted (promote n next r)
 moved (Clear t n) r = gives answer.Cleared (clear t n r)

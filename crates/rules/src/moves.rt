@@ -24,6 +24,8 @@ pub enum Move {
     // the page and the slot that the reading gets
     Reserve(PageNo, u32),
     Drop,
+    // the outermost writer's drop, which commits as its own commit would
+    DropCommit,
     // t, n: t's word gets the update mark, and page n is taken
     Mark(PageNo, PageNo),
     // n, whose word becomes HEADER, and the record's next phase

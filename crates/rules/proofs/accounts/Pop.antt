@@ -1,25 +1,23 @@
--- A popped record keeps the accounts: Pending, Dropped, which is counted, and Committed, which commits all that is taken.
+-- A popped record keeps the accounts: that of a Pending and of a Committed, and that of a Dropped, which is counted.
 -- Assumes nothing.
 use mathlib.Core.Path.{_≡_, sym, ap, _∙_, subst}
 use mathlib.Core.List.{List}
 use Prim.Native.Nat.{ℕ, _+_, _≤_}
 use native.Mathlib.Omega.{arith}
-use borrow.Author.Tests.{lt-ltb}
 use lib.ListN.{length, set, length-set}
 use Rattle.rules.specs.State.{noWriter, top, pop, State}
-use Rattle.rules.specs.Write.{drop, commit}
-use Rattle.rules.specs.Remember.{BegunWriter, Numbered, By, History}
-use Rattle.rules.specs.History.{others, onEnded, onDropped, allCommitted, onCommitted}
+use Rattle.rules.specs.Write.{drop}
+use Rattle.rules.specs.Remember.{BegunWriter, By, History}
+use Rattle.rules.specs.History.{others, onEnded, withDropper}
 use Rattle.rules.specs.declared.state.WriterPhase.{WriterPhase}
 use Rattle.rules.specs.declared.state.WriterPhase.the-variants as phase
 use Rattle.rules.specs.declared.state.Writer.{Writer}
 use Rattle.rules.proofs.Lists.{by-eq}
-use Rattle.rules.proofs.invariant.Order.{N, S, R, T, topAt, usedOf, phaseAt, Held, place}
-use Rattle.rules.proofs.invariant.Control.{Owns, Control}
-use Rattle.rules.proofs.invariant.Accounts.{Sums, nthValue, Ordered, Values, early, earlies, lostOf, Past, AtWork, Accounts}
+use Rattle.rules.proofs.invariant.Order.{N, S, R, topAt, phaseAt, Held, place}
+use Rattle.rules.proofs.invariant.Control.{Owns}
+use Rattle.rules.proofs.invariant.Accounts.{Values, early, earlies, AtWork, Accounts}
 use Rattle.rules.proofs.accounts.Laws.{value-other, earlies-above}
 use Rattle.rules.proofs.accounts.Phase.{early-not-held, balance-top}
-use Rattle.rules.proofs.accounts.Readings.{length-allCommitted, allCommitted-number, allCommitted-own, allCommitted-committed}
 use Rattle.rules.proofs.accounts.Working.{others-length, others-at}
 use Rattle.rules.proofs.order.Records.{phase-other}
 
@@ -65,8 +63,8 @@ module _ {s : State} {h : History} {L : ℕ → ℕ} {pc pt a r0 gap : ℕ} (b :
       let y : _≡_ {A = ℕ} 0 1 = cc in
       omega arith
 
-  pub pending-accounts : top s .phase ≡ phase.Filled → Accounts (pop s) (onEnded h) L pc pt a r0 gap
-  pending-accounts q =
+  pub ended-accounts : top s .phase ≡ phase.Filled → Accounts (pop s) (onEnded h) L pc pt a r0 gap
+  ended-accounts q =
       record {
         contents = b .contents;
         sums = b .sums;
@@ -78,7 +76,7 @@ module _ {s : State} {h : History} {L : ℕ → ℕ} {pc pt a r0 gap : ℕ} (b :
         stackRoom = length-set (s .stack) (topAt s) noWriter ∙ b .stackRoom;
       }
 
-  pub dropped-accounts : top s .phase ≡ phase.Want → Accounts (drop s) (onDropped h) L pc pt a r0 gap
+  pub dropped-accounts : top s .phase ≡ phase.Want → Accounts (drop s) (onEnded (withDropper h)) L pc pt a r0 gap
   dropped-accounts q =
       record {
         contents = b .contents;
@@ -90,81 +88,3 @@ module _ {s : State} {h : History} {L : ℕ → ℕ} {pc pt a r0 gap : ℕ} (b :
         balance = balance' (s .counts .dropped + 1) (omega (arith, ap early q));
         stackRoom = length-set (s .stack) (topAt s) noWriter ∙ b .stackRoom;
       }
-
-  -- ---- the outermost writer commits
-
-  module _ (v : Control s L pc pt) (q : top s .phase ≡ phase.Filled) (one : s .depth ≡ 1) where
-    abbrev readings' : List Numbered
-    readings' = allCommitted (h .readings)
-
-    same-value : (m : ℕ) → nthValue (h .readings) m ≡ nthValue readings' m
-    same-value m = ap (λ (w : BegunWriter). w .value) (sym (allCommitted-own (h .readings) m))
-
-    sums' : Sums (S s) (usedOf s (R s)) (usedOf s (T s)) (usedOf s (T s)) (usedOf s (T s)) (s .places .position) (s .counts .taken) (s .counts .taken)
-        (s .counts .handed) (s .counts .overwritten) pt pt a r0 gap
-    sums' =
-        let c = b .sums in
-        let o = v .order in
-        record {
-          takenIs = c .takenIs;
-          committedIs = c .takenIs;
-          indexed = omega arith;
-          read = c .read;
-          readCommitted = λ z.
-              let y : usedOf s (R s) ≡ usedOf s (T s) = ap (usedOf s) (ap (place (R s) L) (sym z) ∙ o .tailAt) in
-              omega (arith, c .read);
-          joined = λ z. c .joined (omega (arith, o .le));
-          readerFrom = λ z. c .readerFrom (omega (arith, o .le));
-          ringFrom = λ z.
-              by-eq pc 0
-              (λ y. omega (arith, o .full0 y (omega arith), c .joined y, c .readerFrom y))
-              (λ y. c .ringFrom (omega arith));
-          total = c .total;
-        }
-
-    past' : Past (h .events) (lostOf (h .overwritings)) readings' (s .counts .handed) (s .counts .overwritten) r0 (s .places .position) (usedOf s (R s)) gap
-    past' =
-        let k = b .recorded .past in
-        record {
-          handedIs = k .handedIs;
-          overwrittenIs = k .overwrittenIs;
-          given = k .given;
-          rising = k .rising;
-          own = λ i hi. k .own i hi ∙ same-value _;
-          lostLow = k .lostLow;
-          lostApart = k .lostApart;
-          lostRising = k .lostRising;
-          covered = k .covered;
-          gone = k .gone;
-          apart = k .apart;
-        }
-
-    ordered' : Ordered readings' (s .counts .taken) (s .counts .taken)
-    ordered' =
-        let o = b .recorded .ordered in
-        record {
-          size = length-allCommitted (h .readings) ∙ o .size;
-          nth = λ k hk. allCommitted-number (h .readings) k ∙ o .nth k hk;
-          committed-below = λ k hk.
-              allCommitted-committed (h .readings) k (omega (arith, o .size)) ∙ sym (lt-ltb k (s .counts .taken) hk);
-        }
-
-    pub committed-accounts : Accounts (commit s) (onCommitted h) L pt pt a r0 gap
-    committed-accounts =
-        record {
-          contents = b .contents;
-          sums = sums';
-          values = record {
-            held = λ i hi. absurd (omega arith);
-            stored = λ p j hp hj new. values' (filled-free q) .stored p j hp hj new ∙ same-value _;
-          };
-          quiet = b .quiet;
-          recorded = record {
-            past = past';
-            ordered = ordered';
-            rightly = b .recorded .rightly;
-          };
-          work = work';
-          balance = balance' (s .counts .dropped) (omega (arith, ap early q));
-          stackRoom = length-set (s .stack) (topAt s) noWriter ∙ b .stackRoom;
-        }

@@ -11,7 +11,7 @@ use lib.Seq.{getD-set-same, getD-set-other, set-out}
 use Rattle.rules.specs.Limits.{mostCount}
 use Rattle.rules.specs.State.{page, writer, noWriter, withWords, slotIndex, setPhase, pop, State}
 use Rattle.rules.specs.Begin.{begin}
-use Rattle.rules.specs.Write.{reserve, drop, commit}
+use Rattle.rules.specs.Write.{reserve, drop, dropCommit, commit}
 use Rattle.rules.specs.Read.{prepare, swap}
 use Rattle.rules.specs.declared.state.PageNo.{PageNo}
 use Rattle.rules.specs.declared.state.WriterPhase.{WriterPhase}
@@ -96,6 +96,9 @@ module _ (s : State) (k : BoundsOf s) where
 
   pub bounds-drop : BoundsOf (drop s)
   bounds-drop = bounds-pop
+
+  pub bounds-dropCommit : BoundsOf (dropCommit s)
+  bounds-dropCommit = bounds-pop
 
   pub bounds-commit : BoundsOf (commit s)
   bounds-commit = bounds-pop

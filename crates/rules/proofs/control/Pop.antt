@@ -1,20 +1,20 @@
--- A popped record that owns no mark keeps control: Pending, Dropped, and Committed, which moves the commit page to the tail page.
+-- A popped record that owns no mark keeps control: that of a Pending and of a Committed, and that of a Dropped.
 -- Assumes nothing.
-use mathlib.Core.Path.{_≡_, refl, sym, subst}
+use mathlib.Core.Path.{_≡_, sym, subst}
 use mathlib.Core.Logic.{_≢_}
 use mathlib.Core.List.{List}
 use Prim.Native.Nat.{ℕ, _≤_, _<_}
 use native.Mathlib.Omega.{arith}
 use lib.ListN.{set, length-set}
 use Rattle.rules.specs.State.{noWriter, top, pop, State}
-use Rattle.rules.specs.Write.{drop, commit}
+use Rattle.rules.specs.Write.{drop}
 use Rattle.rules.specs.declared.state.WriterPhase.{WriterPhase}
 use Rattle.rules.specs.declared.state.WriterPhase.the-variants as phase
 use Rattle.rules.specs.declared.state.Writer.{Writer}
 use Rattle.rules.proofs.invariant.Order.{N, R, T, topAt, phaseAt, place}
-use Rattle.rules.proofs.invariant.Control.{Owns, Free, Owners, Above, Flags, headed, headless, FlagsIn, Control}
-use Rattle.rules.proofs.control.Phase.{headless-records, unread-control, not-owner, headed-by}
-use Rattle.rules.proofs.order.Records.{phase-other, reader-map}
+use Rattle.rules.proofs.invariant.Control.{Owns, Free, Owners, Flags, headed, headless, FlagsIn, Control}
+use Rattle.rules.proofs.control.Phase.{headless-records, unread-control, not-owner}
+use Rattle.rules.proofs.order.Records.{phase-other}
 
 module _ {s : State} {L : ℕ → ℕ} {pc pt : ℕ} (v : Control s L pc pt) (deep : 1 ≤ s .depth) where
   abbrev stack' : List Writer
@@ -42,7 +42,7 @@ module _ {s : State} {L : ℕ → ℕ} {pc pt : ℕ} (v : Control s L pc pt) (de
         one = λ i j p hi hj a b. v .owners .one i j p (omega arith) (omega arith) (rw (below-top i hi) at a) (rw (below-top j hj) at b);
       }
 
-  -- the pop alone: all of Pending, and what it does in Dropped and Committed
+  -- the pop alone: all of Pending, and the first part of Dropped and Committed
   popped-control : Free (top s .phase) → Control (pop s) L pc pt
   popped-control free =
       record {
@@ -56,36 +56,8 @@ module _ {s : State} {L : ℕ → ℕ} {pc pt : ℕ} (v : Control s L pc pt) (de
         reader = v .reader;
       }
 
-  pub pending-control : top s .phase ≡ phase.Filled → Control (pop s) L pc pt
-  pending-control ph = popped-control (subst Free (sym ph) (λ p o. o))
+  pub ended-control : top s .phase ≡ phase.Filled → Control (pop s) L pc pt
+  ended-control ph = popped-control (subst Free (sym ph) (λ p o. o))
 
   pub dropped-control : top s .phase ≡ phase.Want → Control (drop s) L pc pt
   dropped-control ph = unread-control (popped-control (subst Free (sym ph) (λ p o. o))) _ _ _
-
-  -- the only record goes: no record is left, and there is a header mark
-  pub committed-control : top s .phase ≡ phase.Filled → s .depth ≡ 1 → Control (commit s) L pt pt
-  committed-control ph one =
-      let free : Free (top s .phase) = subst Free (sym ph) (λ p o. o) in
-      let u = popped-control free in
-      let o = v .order in
-      record {
-        links = v .links;
-        order = record {
-          tailAt = o .tailAt;
-          commitAt = o .tailAt;
-          le = omega arith;
-          top = o .top;
-          room = o .room;
-          cap = o .cap;
-          full = o .full;
-          full0 = λ z y. absurd (omega arith);
-          empty = o .empty;
-        };
-        joined = λ z. v .joined (omega (arith, o .le));
-        flags = headed (headed-by v deep free (λ a b. subst (λ (x : WriterPhase). Above a b x → ⊥) (sym ph) (λ z. z)));
-        owners = u .owners;
-        depth = u .depth;
-        records = λ i hi. absurd (omega arith);
-        reader =
-            reader-map (s .words) (s .words) (N s) (R s) pc pt (λ z. omega (arith, o .le)) (λ z. refl) (λ p. refl) (s .reader .phase) (v .reader);
-      }

@@ -12,7 +12,7 @@ use Rattle.rules.specs.Limits.{mostDepth, mostCount, stopMode, headerFla
 use Rattle.rules.specs.State.{sizeOf, wordAt, usedAt, top, State}
 use Rattle.rules.specs.Words.{pageIn, flagIn, samePage, readerOnCommit, links, findHeader}
 use Rattle.rules.specs.Shape.{sizeFits, inShape}
-use Rattle.rules.specs.Write.{planFull, afterPromote, promoteBy, promoteLook, planPhase, planWrite, moved}
+use Rattle.rules.specs.Write.{planDrop, planFull, afterPromote, promoteBy, promoteLook, planPhase, planWrite, moved}
 use Rattle.rules.specs.Read.{readLimit, findBy, planReader, planRead, fetched}
 use Rattle.rules.specs.Act.{act}
 use Rattle.rules.specs.Listed.{listed, AsListed, SetUpAsListed, Demand1}
@@ -36,12 +36,15 @@ module _ (s : State) where
   abbrev MoveUnrefused : Move → Type 0
   MoveUnrefused m = moved m s .tells .refusal ≡ 0
 
-  full-unrefused : (n : PageNo) (flag : ℕ) → MoveUnrefused (planFull (s .size) (s .places) n flag)
+  drop-unrefused : MoveUnrefused (planDrop (s .depth))
+  drop-unrefused = by-cond MoveUnrefused (eqb (s .depth) 1) (λ e. refl) (λ e. refl)
+
+  full-unrefused : (n : PageNo) (flag : ℕ) → MoveUnrefused (planFull (s .size) (s .places) (s .depth) n flag)
   full-unrefused n flag =
       by-cond MoveUnrefused (samePage (s .places .tail) (s .places .reader)) (λ e. refl) (λ e.
-      by-cond MoveUnrefused (samePage n (s .places .commit)) (λ e. refl) (λ e.
-      by-cond MoveUnrefused (eqb flag headerFlag && readerOnCommit (s .places)) (λ e. refl) (λ e.
-      by-cond MoveUnrefused (eqb flag headerFlag && eqb (s .size .mode) stopMode) (λ e. refl) (λ e.
+      by-cond MoveUnrefused (samePage n (s .places .commit)) (λ e. drop-unrefused) (λ e.
+      by-cond MoveUnrefused (eqb flag headerFlag && readerOnCommit (s .places)) (λ e. drop-unrefused) (λ e.
+      by-cond MoveUnrefused (eqb flag headerFlag && eqb (s .size .mode) stopMode) (λ e. drop-unrefused) (λ e.
       by-cond MoveUnrefused (eqb flag headerFlag || eqb flag updateFlag) (λ e. refl) (λ e. refl)))))
 
   promote-unrefused : (found : Search) (n : PageNo) (next : WriterPhase) → MoveUnrefused (promoteBy found n next)

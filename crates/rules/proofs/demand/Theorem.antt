@@ -24,7 +24,7 @@ module _ {r : Run} (g : Invariant (r .now) (r .past)) where
   fits = invariant-inShape (g .control) (g .accounts) (g .bounds)
 
   claim : Claim (receiptOf (r .now .counts)) r
-  claim = demand (g .control) (g .accounts) (g .fates)
+  claim = demand (g .control) (g .accounts) (g .fates) (g .noneOpen)
 
   complete-claim : CompleteClaim (receiptOf (r .now .counts)) r
   complete-claim = complete (r .now) (r .past) (g .fates) (g .accounts .recorded .ordered) (g .accounts .balance) claim

@@ -31,6 +31,7 @@ module _ (v : ℕ) (s : State) (h : History) (g : Invariant s h) where
       (begun-accounts (g .accounts) v room)
       (fates-begun (g .fates) v (λ i hi. sym (ap early (phase-other (s .stack) (s .depth) i _ (omega arith)))) (ap early (phase-same (s .stack) (s .depth) _ room)))
       (bounds-begin s (g .bounds) room fresh v)
+      (λ none. absurd (omega arith))
 
   pub begin-next : Next v s h (beginRule s v)
   begin-next =

@@ -251,4 +251,4 @@ module _ (size : Size) (fits : sizeFits size ≡ true) where
       }
 
   pub fresh-invariant : Invariant (freshRing size) nothing
-  fresh-invariant = holds L 1 1 0 0 0 fresh-control fresh-accounts fresh-fates fresh-bounds
+  fresh-invariant = holds L 1 1 0 0 0 fresh-control fresh-accounts fresh-fates fresh-bounds (λ none. refl)

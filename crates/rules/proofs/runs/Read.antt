@@ -68,7 +68,7 @@ module _ (x : ℕ) (s : State) (h : History) (g : Invariant s h) where
   -- ---- IDLE
 
   event-next : s .reader .phase ≡ reading.Idle → s .places .position < readLimit (s .places) (s .used) → After fetch.Event
-  event-next q l = holds-same g (handed-control v) (event-accounts v b q (limit-page l) (limit-commit l)) (g .fates) (g .bounds)
+  event-next q l = holds-same g (handed-control v) (event-accounts v b q (limit-page l) (limit-commit l)) (g .fates) (g .bounds) (g .noneOpen)
 
   find-next : C s ≢ R s → s .places .position ≡ usedOf s (R s) → (r : Search) → Tells (s .words) (N s) (R s) r → After (findBy r)
   find-next n q (found.At p h0) k =
@@ -78,6 +78,7 @@ module _ (x : ℕ) (s : State) (h : History) (g : Invariant s h) where
       (reader-accounts b (Found (p .0) (h0 .0)) q)
       (g .fates)
       (g .bounds)
+      (g .noneOpen)
   find-next n q found.Nowhere k = g
 
   idle-next : s .reader .phase ≡ reading.Idle → After (planIdle (s .size) (s .places) (s .words) (s .used))
@@ -101,6 +102,7 @@ module _ (x : ℕ) (s : State) (h : History) (g : Invariant s h) where
       (reader-accounts (words-accounts b _) (Ready p h0) whole)
       (g .fates)
       (bounds-prepare v (g .bounds) p h0 q)
+      (g .noneOpen)
 
   -- ---- READY
 
@@ -113,8 +115,9 @@ module _ (x : ℕ) (s : State) (h : History) (g : Invariant s h) where
       (swapped-control v p h0 q hw)
       (swapped-accounts v b p h0 q hw)
       (g .fates)
-      (bounds-swap v (g .bounds) p h0 q))
-      (λ k. holds-same g (missed-control v) (reader-accounts b reading.Idle tt) (g .fates) (g .bounds))
+      (bounds-swap v (g .bounds) p h0 q)
+      (g .noneOpen))
+      (λ k. holds-same g (missed-control v) (reader-accounts b reading.Idle tt) (g .fates) (g .bounds) (g .noneOpen))
 
   -- ---- by the reader's phase
 

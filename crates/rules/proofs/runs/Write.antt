@@ -1,19 +1,20 @@
 -- Write keeps the invariant: for each phase of the top record and each move that its rule decides on, the parts of the invariant that the step changes.
 -- Assumes nothing.
 use mathlib.Core.Path.{_≡_, refl, sym, ap, _∙_, subst}
+use mathlib.Core.Logic.{_≢_}
 use mathlib.Core.Bool.{Bool, true, false, _&&_, _||_}
 use Prim.Native.Nat.{ℕ, suc, _+_, _-_, _*_, _≤_, _<_}
 use native.Mathlib.Omega.{arith}
 use borrow.Author.Tests.{ltb-true, ltb-false, eqb-true, eqb-false, eq-eqb}
 use lib.Dec.{eqb, ltb}
-use lib.ListN.{getD, set}
+use lib.ListN.{length, getD, set}
 use Rattle.rules.specs.Limits.{stopMode, headerFlag, updateFlag}
-use Rattle.rules.specs.State.{page, noWriter, wordAt, usedAt, top, setPhase, State}
+use Rattle.rules.specs.State.{page, noWriter, wordAt, usedAt, top, setPhase, pop, State}
 use Rattle.rules.specs.Words.{pageIn, flagIn, samePage, readerOnCommit, links}
 use Rattle.rules.specs.Shape.{inShape}
-use Rattle.rules.specs.Write.{planFull, planMark, afterPromote, promoteBy, promoteLook, planPromote, planClear, planPush, planFilled, planPhase, mark, moved, writeRule}
+use Rattle.rules.specs.Write.{planDrop, planFull, planMark, afterPromote, promoteBy, promoteLook, planPromote, planClear, planPush, planFilled, planPhase, drop, mark, moved, writeRule}
 use Rattle.rules.specs.Remember.{History}
-use Rattle.rules.specs.History.{onMarked}
+use Rattle.rules.specs.History.{onEnded, withDropper, onMarked}
 use Rattle.rules.specs.declared.state.PageNo.{PageNo}
 use Rattle.rules.specs.declared.state.WriterPhase.{WriterPhase}
 use Rattle.rules.specs.declared.state.WriterPhase.the-variants as phase
@@ -29,19 +30,21 @@ use Rattle.rules.proofs.invariant.Control.{Owns, Free, Control}
 use Rattle.rules.proofs.invariant.Accounts.{early, Accounts}
 use Rattle.rules.proofs.invariant.Fates.{FatesOf}
 use Rattle.rules.proofs.invariant.Bounds.{AimFits, BoundsOf}
+use Rattle.rules.proofs.accounts.Commit.{commit-accounts}
 use Rattle.rules.proofs.accounts.Fill.{filled-accounts}
 use Rattle.rules.proofs.accounts.Mark.{marked-accounts}
 use Rattle.rules.proofs.accounts.Phase.{words-accounts, phase-accounts}
-use Rattle.rules.proofs.accounts.Pop.{pending-accounts, dropped-accounts, committed-accounts}
+use Rattle.rules.proofs.accounts.Pop.{ended-accounts, dropped-accounts}
 use Rattle.rules.proofs.accounts.Push.{tail-accounts}
 use Rattle.rules.proofs.accounts.Reserve.{reserved-accounts}
-use Rattle.rules.proofs.bounds.Steps.{words-fit, bounds-flag, bounds-phase, bounds-reserve, bounds-pop, bounds-drop, bounds-commit}
+use Rattle.rules.proofs.bounds.Steps.{words-fit, bounds-flag, bounds-phase, bounds-reserve, bounds-pop, bounds-drop, bounds-dropCommit, bounds-commit}
 use Rattle.rules.proofs.control.Clear.{cleared-control}
+use Rattle.rules.proofs.control.Commit.{commit-control}
 use Rattle.rules.proofs.control.Fill.{filled-control}
 use Rattle.rules.proofs.control.Look.{look-reader, look-push, look-mark}
 use Rattle.rules.proofs.control.Mark.{retry-control, shared-control, marked-control}
 use Rattle.rules.proofs.control.Phase.{head-of, tail-le, top-below, top-ok}
-use Rattle.rules.proofs.control.Pop.{pending-control, dropped-control, committed-control}
+use Rattle.rules.proofs.control.Pop.{ended-control, dropped-control}
 use Rattle.rules.proofs.control.Promote.{own-after, standing-control, promoted-control}
 use Rattle.rules.proofs.control.Push.{passed-control, pushed-control}
 use Rattle.rules.proofs.control.Reserve.{reserved-control}
@@ -95,6 +98,7 @@ module _ (x : ℕ) {s : State} {h : History} (g : Invariant s h) (deep : 1 ≤ s
       (phase-accounts b deep (v .depth) ph was is (λ p o. absurd (free p o)))
       (phase-fates ph (was ∙ sym is))
       (phase-bounds ph aim)
+      (g .noneOpen)
 
   -- the records below the top one are as early as they were
   early-below : (w : Writer) (i : ℕ) → i < s .depth - 1 → early (phaseAt (s .stack) i) ≡ early (phaseAt (set (s .stack) (topAt s) w) i)
@@ -119,14 +123,40 @@ module _ (x : ℕ) {s : State} {h : History} (g : Invariant s h) (deep : 1 ≤ s
         (reserved-accounts v b deep want room)
         (fates-reserved (g .fates) deep (early-below held) (s .counts .taken) (ap early want) now)
         (bounds-reserve s (g .bounds) deep (v .depth) (s .places .tail) (usedOf s (T s)))
+        (λ none. absurd (omega arith))
 
-    drop-next : After move.Drop
-    drop-next =
-        holds-same g
-        (dropped-control v deep want)
-        (dropped-accounts b deep (v .depth) want)
-        (fates-dropped (g .fates) deep (early-below noWriter) (ap early want))
-        (bounds-drop s (g .bounds))
+    -- what a drop changes, wherever commit is
+    abbrev dropped : Accounts (drop s) (onEnded (withDropper h)) (g .L) (g .pc) (g .pt) (g .a) (g .r0) (g .gap)
+    dropped = dropped-accounts b deep (v .depth) want
+
+    drop-fates : FatesOf (drop s) (onEnded (withDropper h))
+    drop-fates = fates-dropped (g .fates) deep (early-below noWriter) (ap early want)
+
+    -- the writers at work are as many as the records
+    working-is : (k : Bool) → eqb (s .depth) 1 ≡ k → eqb (length (h .working)) 1 ≡ k
+    working-is k d = rw (b .work .many) d
+
+    -- the outermost writer's: no record is left, and what it leaves is committed
+    alone-next : eqb (s .depth) 1 ≡ true → After move.DropCommit
+    alone-next d =
+        let none : s .depth - 1 ≡ 0 = omega (arith, eqb-true (s .depth) 1 d) in
+        let control = dropped-control v deep want in
+        rw (working-is true d)
+        (holds (g .L) (g .pt) (g .pt) (g .a) (g .r0) (g .gap)
+        (commit-control control none)
+        (commit-accounts control dropped none)
+        (fates-committed drop-fates)
+        (bounds-dropCommit s (g .bounds))
+        (λ z. refl))
+
+    deeper-next : eqb (s .depth) 1 ≡ false → After move.Drop
+    deeper-next d =
+        let deeper = eqb-false (s .depth) 1 d in
+        rw (working-is false d)
+        (holds-same g (dropped-control v deep want) dropped drop-fates (bounds-drop s (g .bounds)) (λ none. absurd (omega arith)))
+
+    drop-next : After (planDrop (s .depth))
+    drop-next = by-cond After (eqb (s .depth) 1) alone-next deeper-next
 
     push-look : Control (setPhase (Push (T s) (n .0)) s) (g .L) (g .pc) (g .pt) → After (move.Become (Push (T s) (n .0)) answer.Looked)
     push-look = rephased (Push (T s) (n .0)) (ap early want) refl (λ p o. o) tt
@@ -140,7 +170,7 @@ module _ (x : ℕ) {s : State} {h : History} (g : Invariant s h) (deep : 1 ≤ s
         let no = or-false (eqb flag headerFlag) (eqb flag updateFlag) neither in
         omega (arith, v .owners .small (T s) (tail-le v), eqb-false flag headerFlag (no .0), eqb-false flag updateFlag (no .1))
 
-    full-next : S s ≤ usedOf s (T s) → After (planFull (s .size) (s .places) n flag)
+    full-next : S s ≤ usedOf s (T s) → After (planFull (s .size) (s .places) (s .depth) n flag)
     full-next full =
         by-cond After (samePage (s .places .tail) (s .places .reader)) (λ a. push-look (look-reader v deep want full (eqb-true _ _ a))) (λ not-a.
         by-cond After (samePage n (s .places .commit)) (λ b. drop-next) (λ not-b.
@@ -165,6 +195,7 @@ module _ (x : ℕ) {s : State} {h : History} (g : Invariant s h) (deep : 1 ≤ s
         (marked-accounts v b deep t n phase-is word-is)
         marked-fates
         (bounds-flag (setPhase (Promote t n true) s) (phase-bounds (Promote t n true) tt) t n 2 (omega arith) (omega arith))
+        (g .noneOpen)
 
     mark-next : After (planMark (page t) (page n) (s .words))
     mark-next =
@@ -195,12 +226,14 @@ module _ (x : ℕ) {s : State} {h : History} (g : Invariant s h) (deep : 1 ≤ s
     promote-by : (r : Search) → Tells (s .words) (N s) (R s) r → After (promoteBy r (page n) then)
     promote-by (found.At p q) k =
         holds-same g (standing-control v deep t n own phase-is (head-of (v .flags) (p .0) (k .0) (k .1) (k .2))) after-accounts after-fates after-bounds
+        (g .noneOpen)
     promote-by found.Nowhere k =
         holds-same g
         (promoted-control v deep t n own phase-is k)
         (words-accounts after-accounts _)
         after-fates
         (bounds-flag (setPhase then s) after-bounds n (nextOf (s .words) n) 1 (omega arith) refl)
+        (g .noneOpen)
 
     promote-next : After (planPromote (s .size) (s .places) (page t) (page n) own (s .words))
     promote-next = promote-by (promoteLook (s .size) (s .places) (page n) (s .words)) (search-tells (s .words) (N s) (s .places .reader))
@@ -221,6 +254,7 @@ module _ (x : ℕ) {s : State} {h : History} (g : Invariant s h) (deep : 1 ≤ s
         (words-accounts (phase-accounts b deep (v .depth) (Push t n) (ap early phase-is) refl (λ p o. absurd o)) _)
         (phase-fates (Push t n) (ap early phase-is))
         (bounds-flag (setPhase (Push t n) s) (phase-bounds (Push t n) tt) t n 0 (omega arith) (omega (arith, clear-word)))
+        (g .noneOpen)
 
     clear-next : After (planClear (page t) (page n) (s .words))
     clear-next = by-cond After (links (s .words) (page t) (page n) updateFlag) (λ k. cleared-next) (λ k. absurd (eqb-false _ _ k clear-word))
@@ -237,6 +271,7 @@ module _ (x : ℕ) {s : State} {h : History} (g : Invariant s h) (deep : 1 ≤ s
         (tail-accounts (phase-accounts b deep (v .depth) phase.Want (ap early phase-is) refl (λ p o. absurd o)) n full empty)
         (phase-fates phase.Want (ap early phase-is))
         (phase-bounds phase.Want tt)
+        (g .noneOpen)
 
     push-next : After (planPush (s .places) (page t) (page n))
     push-next =
@@ -253,26 +288,35 @@ module _ (x : ℕ) {s : State} {h : History} (g : Invariant s h) (deep : 1 ≤ s
       (filled-accounts v b deep p j held)
       (phase-fates phase.Filled (ap early held))
       (phase-bounds phase.Filled tt)
+      (g .noneOpen)
 
   module _ (filled : top s .phase ≡ phase.Filled) where
+    ended-fates : FatesOf (pop s) (onEnded h)
+    ended-fates = fates-ended (g .fates) deep (early-below noWriter) (ap early filled)
+
     commit-next : s .depth ≡ 1 → After move.Commit
     commit-next one =
+        let none : s .depth - 1 ≡ 0 = omega arith in
+        let control = ended-control v deep filled in
         holds (g .L) (g .pt) (g .pt) (g .a) (g .r0) (g .gap)
-        (committed-control v deep filled one)
-        (committed-accounts b deep (v .depth) v filled one)
-        (fates-ended (fates-committed (g .fates)) deep (early-below noWriter) (ap early filled))
+        (commit-control control none)
+        (commit-accounts control (ended-accounts b deep (v .depth) filled) none)
+        (fates-committed ended-fates)
         (bounds-commit s (g .bounds))
+        (λ z. refl)
 
-    pend-next : After move.Pend
-    pend-next =
+    pend-next : s .depth ≢ 1 → After move.Pend
+    pend-next deeper =
         holds-same g
-        (pending-control v deep filled)
-        (pending-accounts b deep (v .depth) filled)
-        (fates-ended (g .fates) deep (early-below noWriter) (ap early filled))
+        (ended-control v deep filled)
+        (ended-accounts b deep (v .depth) filled)
+        ended-fates
         (bounds-pop s (g .bounds))
+        (λ none. absurd (omega arith))
 
     filled-next : After (planFilled (s .depth))
-    filled-next = by-cond After (eqb (s .depth) 1) (λ k. commit-next (eqb-true (s .depth) 1 k)) (λ k. pend-next)
+    filled-next =
+        by-cond After (eqb (s .depth) 1) (λ k. commit-next (eqb-true (s .depth) 1 k)) (λ k. pend-next (eqb-false (s .depth) 1 k))
 
   -- ---- by the top record's phase
 
