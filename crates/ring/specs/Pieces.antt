@@ -21,7 +21,7 @@ use Rattle.rules.specs.declared.state.Writer.{Writer}
 use Rattle.rules.specs.declared.state.Reader.{Reader}
 use Rattle.rules.specs.declared.state.Answer.{Answer}
 use Rattle.rules.specs.declared.moves.Move.{Move}
-use Rattle.rules.specs.declared.moves.Move.the-variants.{Become, Reserve, Drop, Mark, Promote, Clear, Push, Fill, Pend, Commit}
+use Rattle.rules.specs.declared.moves.Move.the-variants.{Become, Reserve, Drop, DropCommit, Mark, Promote, Clear, Push, Fill, Pend, Commit}
 use Rattle.rules.specs.declared.moves.Fetch.{Fetch}
 use Rattle.rules.specs.declared.moves.Fetch.the-variants as fetch
 use Rattle.ring.specs.declared.pieces.Stores.{Stores}
@@ -54,6 +54,7 @@ abbrev pub storesAfter : Move → Size → ℕ → ℕ → List ℕ → Stores
 storesAfter (Become next a) size taken value words = stores.Same
 storesAfter (Reserve t slot) size taken value words = stores.Number (slotIndex size t slot) (reading taken) t (slot + 1)
 storesAfter Drop size taken value words = stores.Same
+storesAfter DropCommit size taken value words = stores.Same
 storesAfter (Mark t n) size taken value words = stores.Take t (wordOf n updateFlag) n
 storesAfter (Promote n next) size taken value words = stores.Word n (wordOf (pageIn (wordAt words n)) headerFlag)
 storesAfter (Clear t n) size taken value words = stores.Word t (wordOf n normalFlag)
@@ -138,6 +139,7 @@ abbrev pub MovePrecondition : Move → Type 0
 MovePrecondition (Become next a) = Unit {0}
 MovePrecondition (Reserve t slot) = (t .0 ≤ mostPages) × (slot < mostSlots)
 MovePrecondition Drop = Unit {0}
+MovePrecondition DropCommit = Unit {0}
 MovePrecondition (Mark t n) = (t .0 ≤ mostPages) × (n .0 ≤ mostPages)
 MovePrecondition (Promote n next) = n .0 ≤ mostPages
 MovePrecondition (Clear t n) = (t .0 ≤ mostPages) × (n .0 ≤ mostPages)

@@ -45,7 +45,7 @@ pub(crate) fn answer_after(m: Move, taken: u64) -> Answer
     match m {
         Move::Become(_, answer) => answer,
         Move::Reserve(_, _) => Answer::Reserved(number),
-        Move::Drop => Answer::Dropped,
+        Move::Drop | Move::DropCommit => Answer::Dropped,
         Move::Mark(_, _) => Answer::Marked,
         Move::Promote(_, _) => Answer::Promoted,
         Move::Clear(_, _) => Answer::Cleared,
@@ -69,7 +69,7 @@ pub(crate) fn record_after(m: Move, value: u32) -> Writer
         Move::Clear(t, n) => WriterPhase::Push(t, n),
         Move::Push(_) => WriterPhase::Want,
         Move::Fill(_, _) => WriterPhase::Filled,
-        Move::Drop | Move::Pend | Move::Commit => {
+        Move::Drop | Move::DropCommit | Move::Pend | Move::Commit => {
             return no_writer;
         }
     };
@@ -85,6 +85,10 @@ pub(crate) fn counts_after(m: Move, counts: Counts, used: &[u32; 17]) -> Counts
     match m {
         Move::Reserve(_, _) => next.taken = counts.taken + 1,
         Move::Drop => next.dropped = counts.dropped + 1,
+        Move::DropCommit => {
+            next.dropped = counts.dropped + 1;
+            next.committed = counts.taken;
+        }
         Move::Mark(_, n) => {
             let lost = used_at(used, n);
             next.overwritten = counts.overwritten + (lost as u64);
@@ -95,7 +99,7 @@ pub(crate) fn counts_after(m: Move, counts: Counts, used: &[u32; 17]) -> Counts
     next
 }
 
-// A push moves the tail, a commit the commit page and index.
+// A push moves the tail; a commit, and a drop that commits, the commit page and index.
 pub(crate) fn places_after(m: Move, places: Places, used: &[u32; 17]) -> Places
     requires { ⌜ places .tail .0 ≤ mostPages ⌝ }
     ensures { λ r. ⌜ r ≡ placesAfter m places (now (used .entry)) ⌝ }
@@ -103,7 +107,7 @@ pub(crate) fn places_after(m: Move, places: Places, used: &[u32; 17]) -> Places
     let mut next = places;
     match m {
         Move::Push(n) => next.tail = n,
-        Move::Commit => {
+        Move::DropCommit | Move::Commit => {
             let tail = places.tail;
             next.commit = tail;
             next.index = used_at(used, tail);
@@ -119,7 +123,7 @@ pub(crate) fn depth_after(m: Move, depth: u32) -> u32
     ensures { λ r. ⌜ r ≡ depthAfter m depth ⌝ }
 {
     match m {
-        Move::Drop | Move::Pend | Move::Commit => depth - 1,
+        Move::Drop | Move::DropCommit | Move::Pend | Move::Commit => depth - 1,
         _ => depth,
     }
 }

@@ -6,7 +6,7 @@ ghost use Prim.Native.Nat.{_≤_};
 ghost use Rattle.rules.specs.Limits.{mostPages};
 ghost use Rattle.rules.specs.Refusals.{writeVerdict};
 ghost use Rattle.rules.specs.Shape.{writerFits};
-ghost use Rattle.rules.specs.Write.{planFull, planWant, planMark, afterPromote, planPromote, planClear, planPush, planFilled, planPhase, writeRule};
+ghost use Rattle.rules.specs.Write.{planDrop, planFull, planWant, planMark, afterPromote, planPromote, planClear, planPush, planFilled, planPhase, writeRule};
 ghost use Rattle.ring.specs.Ring.{outcome, stateOf};
 use crate::cells::used_at;
 use crate::cells::word_at;
@@ -36,26 +36,38 @@ use rules::state::Size;
 use rules::state::Writer;
 use rules::state::WriterPhase;
 
+// A drop: the outermost writer's commits what writers inside it left.
+fn plan_drop(depth: u32) -> Move
+    ensures { λ r. ⌜ r ≡ planDrop depth ⌝ }
+{
+    if depth == 1 {
+        Move::DropCommit
+    } else {
+        Move::Drop
+    }
+}
+
 // WANT, the tail page full; n and flag are those of its word.
-fn plan_full(size: Size, places: Places, n: PageNo, flag: u32) -> Move
-    ensures { λ r. ⌜ r ≡ planFull size places n flag ⌝ }
+fn plan_full(size: Size, places: Places, depth: u32, n: PageNo, flag: u32) -> Move
+    ensures { λ r. ⌜ r ≡ planFull size places depth n flag ⌝ }
 {
     let t = places.tail;
+    let drop = plan_drop(depth);
     // a
     if t.0 == places.reader.0 {
         return Move::Become(WriterPhase::Push(t, n), Answer::Looked);
     }
     // b
     if n.0 == places.commit.0 {
-        return Move::Drop;
+        return drop;
     }
     // c
     if (flag == Ring::HEADER) & (places.commit.0 == places.reader.0) {
-        return Move::Drop;
+        return drop;
     }
     // d
     if (flag == Ring::HEADER) & (size.mode == Ring::STOP) {
-        return Move::Drop;
+        return drop;
     }
     // e
     if (flag == Ring::HEADER) | (flag == Ring::UPDATE) {
@@ -66,9 +78,15 @@ fn plan_full(size: Size, places: Places, n: PageNo, flag: u32) -> Move
 }
 
 // WANT: a slot of the tail page, if it has one left.
-fn plan_want<'a>(size: Size, places: Places, words: &'a [u32; 17], used: &'a [u32; 17]) -> Move
+fn plan_want<'a>(
+    size: Size,
+    places: Places,
+    depth: u32,
+    words: &'a [u32; 17],
+    used: &'a [u32; 17],
+) -> Move
     requires { ⌜ places .tail .0 ≤ mostPages ⌝ }
-    ensures { λ r. ⌜ r ≡ planWant size places (now (words .entry)) (now (used .entry)) ⌝ }
+    ensures { λ r. ⌜ r ≡ planWant size places depth (now (words .entry)) (now (used .entry)) ⌝ }
 {
     let t = places.tail;
     let slot = used_at(used, t);
@@ -76,7 +94,7 @@ fn plan_want<'a>(size: Size, places: Places, words: &'a [u32; 17], used: &'a [u3
         return Move::Reserve(t, slot);
     }
     let w = word_at(words, t);
-    plan_full(size, places, page_in(w), flag_in(w))
+    plan_full(size, places, depth, page_in(w), flag_in(w))
 }
 
 // MARK. A mark that is there already is another writer's, and that one clears it.
@@ -168,7 +186,7 @@ pub(crate) fn plan_phase<'a>(
 {
     let phase = w.phase;
     match phase {
-        WriterPhase::Want => plan_want(size, places, words, used),
+        WriterPhase::Want => plan_want(size, places, depth, words, used),
         WriterPhase::Mark(t, n) => plan_mark(t, n, words),
         WriterPhase::Promote(t, n, own) => plan_promote(size, places, t, n, own, words),
         WriterPhase::Clear(t, n) => plan_clear(t, n, words),

@@ -29,7 +29,7 @@ use Rattle.rules.specs.declared.state.Action.the-variants.{Begin, Write, Read}
 use Rattle.rules.specs.declared.moves.Verdict.{Verdict}
 use Rattle.rules.specs.declared.moves.Verdict.the-variants.{Allowed, Refused}
 use Rattle.rules.specs.declared.moves.Move.{Move}
-use Rattle.rules.specs.declared.moves.Move.the-variants.{Become, Reserve, Drop, Mark, Promote, Clear, Push, Fill, Pend, Commit}
+use Rattle.rules.specs.declared.moves.Move.the-variants.{Become, Reserve, Drop, DropCommit, Mark, Promote, Clear, Push, Fill, Pend, Commit}
 use Rattle.rules.specs.declared.moves.Fetch.{Fetch}
 use Rattle.rules.specs.declared.moves.Fetch.the-variants as fetch
 use Rattle.ring.specs.declared.change.Change.{Change}
@@ -62,6 +62,7 @@ module _ (r : State) where
   moved-agrees (Become next a) = record { state = refl; answer = refl }
   moved-agrees (Reserve t slot) = record { state = refl; answer = refl }
   moved-agrees Drop = record { state = refl; answer = refl }
+  moved-agrees DropCommit = record { state = refl; answer = refl }
   moved-agrees (Mark t n) = record { state = refl; answer = refl }
   moved-agrees (Promote n next) = record { state = refl; answer = refl }
   moved-agrees (Clear t n) = record { state = refl; answer = refl }

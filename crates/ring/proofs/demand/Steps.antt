@@ -50,6 +50,7 @@ moved-plain : (m : Move) (r : State) → Plain (moved m r)
 moved-plain (move.Become next a) r = refl
 moved-plain (move.Reserve t slot) r = refl
 moved-plain move.Drop r = refl
+moved-plain move.DropCommit r = refl
 moved-plain (move.Mark t n) r = refl
 moved-plain (move.Promote n next) r = refl
 moved-plain (move.Clear t n) r = refl

@@ -16,7 +16,7 @@ use Rattle.rules.specs.declared.state.Answer.{Answer}
 use Rattle.rules.specs.declared.state.Refusal.{Refusal}
 use Rattle.rules.specs.declared.moves.Verdict.the-variants.{Allowed, Refused}
 use Rattle.rules.specs.declared.moves.Move.{Move}
-use Rattle.rules.specs.declared.moves.Move.the-variants.{Become, Reserve, Drop, Mark, Promote, Clear, Push, Fill, Pend, Commit}
+use Rattle.rules.specs.declared.moves.Move.the-variants.{Become, Reserve, Drop, DropCommit, Mark, Promote, Clear, Push, Fill, Pend, Commit}
 use Rattle.rules.specs.declared.moves.Fetch.{Fetch}
 use Rattle.rules.specs.declared.moves.Fetch.the-variants as fetch
 use Rattle.rules.specs.declared.state.ReadingNo.{ReadingNo}
@@ -53,6 +53,7 @@ module _ (P : Move → Type 0) where
       (((next : WriterPhase) (a : Answer) → P (Become next a))
       ∷ ((t : PageNo) (slot : ℕ) → P (Reserve t slot))
       ∷ P Drop
+      ∷ P DropCommit
       ∷ ((t n : PageNo) → P (Mark t n))
       ∷ ((n : PageNo) (next : WriterPhase) → P (Promote n next))
       ∷ ((t n : PageNo) → P (Clear t n))
@@ -68,6 +69,7 @@ module _ (P : Move → Type 0) where
   of-move (Become next a) h = h next a
   of-move (Reserve t slot) h = h t slot
   of-move Drop h = h
+  of-move DropCommit h = h
   of-move (Mark t n) h = h t n
   of-move (Promote n next) h = h n next
   of-move (Clear t n) h = h t n

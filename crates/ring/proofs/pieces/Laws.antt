@@ -25,7 +25,7 @@ use Rattle.rules.specs.declared.state.Writer.{Writer}
 use Rattle.rules.specs.declared.state.Reader.{Reader}
 use Rattle.rules.specs.declared.state.Answer.{Answer}
 use Rattle.rules.specs.declared.moves.Move.{Move}
-use Rattle.rules.specs.declared.moves.Move.the-variants.{Become, Reserve, Drop, Mark, Promote, Clear, Push, Fill, Pend, Commit}
+use Rattle.rules.specs.declared.moves.Move.the-variants.{Become, Reserve, Drop, DropCommit, Mark, Promote, Clear, Push, Fill, Pend, Commit}
 use Rattle.rules.specs.declared.moves.Fetch.{Fetch}
 use Rattle.rules.specs.declared.moves.Fetch.the-variants as fetch
 use Rattle.ring.specs.declared.pieces.Stores.{Stores}
@@ -52,6 +52,7 @@ pub moved-pieces : (m : Move) (r : State) → moved m r ≡ leavesBy m r
 moved-pieces (Become next a) r = refl
 moved-pieces (Reserve t slot) r = refl
 moved-pieces Drop r = refl
+moved-pieces DropCommit r = refl
 moved-pieces (Mark t n) r = refl
 moved-pieces (Promote n next) r = refl
 moved-pieces (Clear t n) r = refl
@@ -81,6 +82,7 @@ module _ (size : Size) (taken value : ℕ) (words : List ℕ) (le : size .slots 
   stores-precondition (Become next a) h = tt
   stores-precondition (Reserve t slot) h = (slotIndex-room size t slot (h .0) le (h .1), h .0)
   stores-precondition Drop h = tt
+  stores-precondition DropCommit h = tt
   stores-precondition (Mark t n) h = h
   stores-precondition (Promote n next) h = h
   stores-precondition (Clear t n) h = h .0

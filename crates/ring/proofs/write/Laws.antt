@@ -11,7 +11,7 @@ use Rattle.rules.specs.State.{wordAt, usedAt, top, State}
 use Rattle.rules.specs.Refusals.{writeVerdict}
 use Rattle.rules.specs.Words.{pageIn, flagIn, samePage, readerOnCommit, links, findHeader}
 use Rattle.rules.specs.Shape.{pagesFit, writerFits}
-use Rattle.rules.specs.Write.{planFull, promoteBy, planPhase, planWrite}
+use Rattle.rules.specs.Write.{planDrop, planFull, promoteBy, planPhase, planWrite}
 use Rattle.ring.specs.Pieces.{MovePrecondition}
 use Rattle.rules.specs.declared.state.PageNo.{PageNo}
 use Rattle.rules.specs.declared.state.WriterPhase.{WriterPhase}
@@ -35,12 +35,15 @@ allows true depth h =
     (λ d. record { shape = refl; somebody = eqb-false depth 0 d })
 
 -- a full tail page leads to a drop or to another phase, which name nothing to store to
-full-precondition : (r : State) (n : PageNo) (flag : ℕ) → MovePrecondition (planFull (r .size) (r .places) n flag)
+drop-precondition : (depth : ℕ) → MovePrecondition (planDrop depth)
+drop-precondition depth = by-cond MovePrecondition (eqb depth 1) (λ e. tt) (λ e. tt)
+
+full-precondition : (r : State) (n : PageNo) (flag : ℕ) → MovePrecondition (planFull (r .size) (r .places) (r .depth) n flag)
 full-precondition r n flag =
     by-cond MovePrecondition (samePage (r .places .tail) (r .places .reader)) (λ e. tt) (λ e.
-    by-cond MovePrecondition (samePage n (r .places .commit)) (λ e. tt) (λ e.
-    by-cond MovePrecondition (eqb flag headerFlag && readerOnCommit (r .places)) (λ e. tt) (λ e.
-    by-cond MovePrecondition (eqb flag headerFlag && eqb (r .size .mode) stopMode) (λ e. tt) (λ e.
+    by-cond MovePrecondition (samePage n (r .places .commit)) (λ e. drop-precondition (r .depth)) (λ e.
+    by-cond MovePrecondition (eqb flag headerFlag && readerOnCommit (r .places)) (λ e. drop-precondition (r .depth)) (λ e.
+    by-cond MovePrecondition (eqb flag headerFlag && eqb (r .size .mode) stopMode) (λ e. drop-precondition (r .depth)) (λ e.
     by-cond MovePrecondition (eqb flag headerFlag || eqb flag updateFlag) (λ e. tt) (λ e. tt)))))
 
 -- PROMOTE names n alone, whatever was found

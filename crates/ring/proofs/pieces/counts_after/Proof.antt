@@ -23,23 +23,28 @@ returns-2 : tie.Need-returns-2
 returns-2 c = rw (c .before .enum-told2 .given .1)
 
 returns-3 : tie.Need-returns-3
-returns-3 c = rw (c .before .before .before .m .given .1, c .before .used-at .ensures)
+returns-3 c = rw (c .before .enum-told3 .given .1)
 
 returns-4 : tie.Need-returns-4
-returns-4 c = rw (c .enum-told3 .given .1)
+returns-4 c = rw (c .before .before .before .m .given .1, c .before .used-at .ensures)
+
+returns-5 : tie.Need-returns-5
+returns-5 c = rw (c .enum-told4 .given .1)
 
 -- Become, Promote, Clear, Push, Fill, Pend: the counts stay
-returns-5 : tie.Need-returns-5
-returns-5 c =
+returns-6 : tie.Need-returns-6
+returns-6 c =
     let a = c .before .args in
-    of-numbers (λ (m : Move). a .counts ≡ countsAfter m (a .counts) (now (a .used))) (0 ∷ 4 ∷ 5 ∷ 6 ∷ 7 ∷ 8 ∷ []) (a .m)
+    of-numbers (λ (m : Move). a .counts ≡ countsAfter m (a .counts) (now (a .used))) (0 ∷ 5 ∷ 6 ∷ 7 ∷ 8 ∷ 9 ∷ []) (a .m)
     ((λ next a. refl), ((λ n next. refl), ((λ t n. refl), ((λ n. refl), ((λ p slot. refl), (refl, tt))))))
-    (c .match .keys5)
+    (c .match .keys6)
 
 pub counts-after-spec : {M : Type 1} → statement M
 counts-after-spec =
     tie.close
     (tie.spec
+    (λ c. search needs)
+    (λ c. search needs)
     (λ c. search needs)
     (λ c. search needs)
     (λ c. search needs)
@@ -53,4 +58,5 @@ counts-after-spec =
     returns-2
     returns-3
     returns-4
-    returns-5)
+    returns-5
+    returns-6)

@@ -9,17 +9,17 @@ use Rattle.ring.proofs.moves.Laws.{of-numbers}
 use Rattle.ring.proofs.pieces.depth_after.Statement.{statement}
 use Rattle.ring.proofs.pieces.depth_after.Tie as tie
 
--- Drop, Pend, Commit
+-- Drop, DropCommit, Pend, Commit
 returns : tie.Need-returns
 returns c =
     let a = c .before .args in
-    of-numbers (λ (m : Move). a .depth - 1 ≡ depthAfter m (a .depth)) (2 ∷ 8 ∷ 9 ∷ []) (a .m) (refl, (refl, (refl, tt))) (c .match .keys1)
+    of-numbers (λ (m : Move). a .depth - 1 ≡ depthAfter m (a .depth)) (2 ∷ 3 ∷ 9 ∷ 10 ∷ []) (a .m) (refl, (refl, (refl, (refl, tt)))) (c .match .keys1)
 
 -- Become, Reserve, Mark, Promote, Clear, Push, Fill
 returns-2 : tie.Need-returns-2
 returns-2 c =
     let a = c .before .args in
-    of-numbers (λ (m : Move). a .depth ≡ depthAfter m (a .depth)) (0 ∷ 1 ∷ 3 ∷ 4 ∷ 5 ∷ 6 ∷ 7 ∷ []) (a .m)
+    of-numbers (λ (m : Move). a .depth ≡ depthAfter m (a .depth)) (0 ∷ 1 ∷ 4 ∷ 5 ∷ 6 ∷ 7 ∷ 8 ∷ []) (a .m)
     ((λ next a. refl), ((λ t slot. refl), ((λ t n. refl), ((λ n next. refl), ((λ t n. refl), ((λ n. refl), ((λ p slot. refl), tt)))))))
     (c .match .keys2)
 

@@ -10,12 +10,12 @@ use Rattle.ring.proofs.moves.Laws.{of-numbers}
 use Rattle.ring.proofs.pieces.record_after.Statement.{statement}
 use Rattle.ring.proofs.pieces.record_after.Tie as tie
 
--- Drop, Pend, Commit: the record is popped
+-- Drop, DropCommit, Pend, Commit: the record is popped
 returns : tie.Need-returns
 returns c =
     let a = c .before .before .args in
     rw (c .before .wanting .ensures)
-    (of-numbers (λ (m : Move). noWriter ≡ recordAfter m (a .value)) (2 ∷ 8 ∷ 9 ∷ []) (a .m) (refl, (refl, (refl, tt))) (c .match .keys8))
+    (of-numbers (λ (m : Move). noWriter ≡ recordAfter m (a .value)) (2 ∷ 3 ∷ 9 ∷ 10 ∷ []) (a .m) (refl, (refl, (refl, (refl, tt)))) (c .match .keys8))
 
 returns-2 : tie.Need-returns-2
 returns-2 c = rw (c .before .m .given .1)

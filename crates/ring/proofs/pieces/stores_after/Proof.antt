@@ -49,12 +49,12 @@ returns-4 c = rw (c .before .before .m4 .given .1, c .word-of3 .ensures)
 returns-5 : tie.Need-returns-5
 returns-5 c = rw (c .before .before .m5 .given .1, c .slot-index2 .ensures)
 
--- Become, Drop, Push, Pend, Commit: no cell is stored to
+-- Become, Drop, DropCommit, Push, Pend, Commit: no cell is stored to
 returns-6 : tie.Need-returns-6
 returns-6 c =
     let a = c .before .args in
-    of-numbers (λ (m : Move). Same ≡ storesAfter m (a .size) (a .taken) (a .value) (now (a .words))) (0 ∷ 2 ∷ 6 ∷ 8 ∷ 9 ∷ []) (a .m)
-    ((λ next a. refl), (refl, ((λ n. refl), (refl, (refl, tt)))))
+    of-numbers (λ (m : Move). Same ≡ storesAfter m (a .size) (a .taken) (a .value) (now (a .words))) (0 ∷ 2 ∷ 3 ∷ 7 ∷ 9 ∷ 10 ∷ []) (a .m)
+    ((λ next a. refl), (refl, (refl, ((λ n. refl), (refl, (refl, tt))))))
     (c .match .keys6)
 
 pub stores-after-spec : {M : Type 1} → statement M

@@ -1,7 +1,8 @@
 -- `plan_full` is the rule of a full tail page: the tests of the cases, in their order. The tests that failed are named as the rule has them.
--- Assumes nothing.
+-- What a drop is was decided before them. Assumes nothing.
 use mathlib.Core.Path.{_≡_}
 use mathlib.Core.Bool.{false, _&&_}
+use borrow.Author.Needs.{needs}
 use borrow.Author.Tests.{eq-eqb, ne-eqb}
 use lib.Dec.{eqb}
 use Rattle.rules.specs.Limits.{stopMode, headerFlag}
@@ -11,8 +12,11 @@ use Rattle.ring.proofs.write.plan_full.Tie as tie
 
 -- ---- a case that does not apply
 
+abbrev drop-at : tie.Else1 → tie.After-plan-drop
+drop-at c = c .before .before .before
+
 abbrev start-a : tie.Else1 → tie.Start
-start-a c = c .before .before .before .before
+start-a c = drop-at c .before .before
 
 abbrev start-b : tie.Else2 → tie.Start
 start-b c = start-a (c .before .before .before)
@@ -41,18 +45,22 @@ returns : tie.Need-returns
 returns c = rw (eq-eqb _ _ (c .if1 .taken))
 
 returns-2 : tie.Need-returns-2
-returns-2 c = rw (not-a (c .before .before .before), eq-eqb _ _ (c .if2 .taken))
+returns-2 c =
+    let past-a = c .before .before .before in
+    rw (not-a past-a, eq-eqb _ _ (c .if2 .taken)) (drop-at past-a .plan-drop .ensures)
 
 returns-3 : tie.Need-returns-3
 returns-3 c =
     let past-b = c .before .before in
-    rw (not-a (past-b .before .before .before), not-b past-b, c .if3 .taken)
+    let past-a = past-b .before .before .before in
+    rw (not-a past-a, not-b past-b, c .if3 .taken) (drop-at past-a .plan-drop .ensures)
 
 returns-4 : tie.Need-returns-4
 returns-4 c =
     let past-c = c .before .before in
     let past-b = past-c .before .before in
-    rw (not-a (past-b .before .before .before), not-b past-b, not-c past-c, c .if4 .taken)
+    let past-a = past-b .before .before .before in
+    rw (not-a past-a, not-b past-b, not-c past-c, c .if4 .taken) (drop-at past-a .plan-drop .ensures)
 
 returns-5 : tie.Need-returns-5
 returns-5 c =
@@ -67,4 +75,4 @@ returns-6 c =
     rw (not-a (past-b .before .before .before), not-b past-b, not-c past-c, not-d (c .before), c .if5 .left)
 
 pub plan-full-spec : {M : Type 1} → statement M
-plan-full-spec = tie.close (tie.spec returns returns-2 returns-3 returns-4 returns-5 returns-6)
+plan-full-spec = tie.close (tie.spec (λ c κs. search needs) returns returns-2 returns-3 returns-4 returns-5 returns-6)
