@@ -14,6 +14,8 @@ pub mod runs
 pub mod demand
 pub mod setup
 pub mod shape
+pub mod write
 pub mod drain
 pub mod ReplayCases
 pub mod DrainCases
+pub mod Drops

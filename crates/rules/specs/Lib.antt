@@ -22,10 +22,11 @@ pub mod Cases
 pub mod Remember
 pub mod History
 pub mod Demand
--- the later requests: a recorded day (E1), a drain (E2). That answers stand as numbers in a buffer that is lent (Codes, and in Replay) is a house form
+-- the later requests: a recorded day (E1), a drain (E2), a drop that commits (E3). That answers stand as numbers in a buffer that is lent (Codes, and in Replay) is a house form
 pub mod Codes
 pub mod Actions
 pub mod Replay
 pub mod ReplayCases
 pub mod Drain
 pub mod DrainCases
+pub mod Drops

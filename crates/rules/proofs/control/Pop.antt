@@ -8,7 +8,6 @@ use native.Mathlib.Omega.{arith}
 use lib.ListN.{set, length-set}
 use Rattle.rules.specs.State.{noWriter, top, pop, State}
 use Rattle.rules.specs.Write.{drop}
-use Rattle.rules.specs.declared.state.WriterPhase.{WriterPhase}
 use Rattle.rules.specs.declared.state.WriterPhase.the-variants as phase
 use Rattle.rules.specs.declared.state.Writer.{Writer}
 use Rattle.rules.proofs.invariant.Order.{N, R, T, topAt, phaseAt, place}

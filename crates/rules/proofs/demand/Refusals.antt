@@ -4,22 +4,19 @@
 -- Assumes nothing.
 use mathlib.Core.Path.{_≡_, refl, sym, _∙_}
 use mathlib.Core.Logic.{_≢_}
-use mathlib.Core.Bool.{true, _&&_, _||_}
+use mathlib.Core.Bool.{true}
 use Prim.Native.Nat.{ℕ}
 use native.Mathlib.Omega.{arith}
 use lib.Dec.{eqb, ltb}
-use Rattle.rules.specs.Limits.{mostDepth, mostCount, stopMode, headerFlag, updateFlag}
-use Rattle.rules.specs.State.{sizeOf, wordAt, usedAt, top, State}
-use Rattle.rules.specs.Words.{pageIn, flagIn, samePage, readerOnCommit, links, findHeader}
+use Rattle.rules.specs.Limits.{mostDepth, mostCount, headerFlag}
+use Rattle.rules.specs.State.{sizeOf, State}
+use Rattle.rules.specs.Words.{readerOnCommit, links, findHeader}
 use Rattle.rules.specs.Shape.{sizeFits, inShape}
-use Rattle.rules.specs.Write.{planDrop, planFull, afterPromote, promoteBy, promoteLook, planPhase, planWrite, moved}
+use Rattle.rules.specs.Write.{planWrite, moved}
 use Rattle.rules.specs.Read.{readLimit, findBy, planReader, planRead, fetched}
 use Rattle.rules.specs.Act.{act}
 use Rattle.rules.specs.Listed.{listed, AsListed, SetUpAsListed, Demand1}
 use Rattle.rules.specs.Demand.{Sound}
-use Rattle.rules.specs.declared.state.PageNo.{PageNo}
-use Rattle.rules.specs.declared.state.WriterPhase.{WriterPhase}
-use Rattle.rules.specs.declared.state.WriterPhase.the-variants as phase
 use Rattle.rules.specs.declared.state.ReaderPhase.{ReaderPhase}
 use Rattle.rules.specs.declared.state.ReaderPhase.the-variants as reading
 use Rattle.rules.specs.declared.state.Action.{Action}
@@ -29,6 +26,7 @@ use Rattle.rules.specs.declared.moves.Search.the-variants as found
 use Rattle.rules.specs.declared.moves.Move.{Move}
 use Rattle.rules.specs.declared.moves.Fetch.{Fetch}
 use Rattle.rules.proofs.Lists.{by-bool, by-cond}
+use Rattle.rules.proofs.write.Moves.{Moves, of-planned}
 
 -- ---- what an allowed Write or Read answers
 
@@ -36,37 +34,27 @@ module _ (s : State) where
   abbrev MoveUnrefused : Move → Type 0
   MoveUnrefused m = moved m s .tells .refusal ≡ 0
 
-  drop-unrefused : MoveUnrefused (planDrop (s .depth))
-  drop-unrefused = by-cond MoveUnrefused (eqb (s .depth) 1) (λ e. refl) (λ e. refl)
-
-  full-unrefused : (n : PageNo) (flag : ℕ) → MoveUnrefused (planFull (s .size) (s .places) (s .depth) n flag)
-  full-unrefused n flag =
-      by-cond MoveUnrefused (samePage (s .places .tail) (s .places .reader)) (λ e. refl) (λ e.
-      by-cond MoveUnrefused (samePage n (s .places .commit)) (λ e. drop-unrefused) (λ e.
-      by-cond MoveUnrefused (eqb flag headerFlag && readerOnCommit (s .places)) (λ e. drop-unrefused) (λ e.
-      by-cond MoveUnrefused (eqb flag headerFlag && eqb (s .size .mode) stopMode) (λ e. drop-unrefused) (λ e.
-      by-cond MoveUnrefused (eqb flag headerFlag || eqb flag updateFlag) (λ e. refl) (λ e. refl)))))
-
-  promote-unrefused : (found : Search) (n : PageNo) (next : WriterPhase) → MoveUnrefused (promoteBy found n next)
-  promote-unrefused (found.At p h) n next = refl
-  promote-unrefused found.Nowhere n next = refl
-
-  phase-unrefused : (ph : WriterPhase) → MoveUnrefused (planPhase ph (s .size) (s .places) (s .depth) (s .words) (s .used))
-  phase-unrefused phase.Want =
-      by-cond MoveUnrefused (ltb (usedAt (s .used) (s .places .tail)) (s .size .slots))
-      (λ e. refl)
-      (λ e. full-unrefused (pageIn (wordAt (s .words) (s .places .tail))) (flagIn (wordAt (s .words) (s .places .tail))))
-  phase-unrefused (phase.Mark t n) =
-      by-cond MoveUnrefused (links (s .words) t n headerFlag) (λ e. refl) (λ e.
-      by-cond MoveUnrefused (links (s .words) t n updateFlag) (λ e. refl) (λ e. refl))
-  phase-unrefused (phase.Promote t n own) = promote-unrefused (promoteLook (s .size) (s .places) n (s .words)) n (afterPromote t n own)
-  phase-unrefused (phase.Clear t n) = by-cond MoveUnrefused (links (s .words) t n updateFlag) (λ e. refl) (λ e. refl)
-  phase-unrefused (phase.Push t n) = by-cond MoveUnrefused (samePage (s .places .tail) t) (λ e. refl) (λ e. refl)
-  phase-unrefused (phase.Held p slot) = refl
-  phase-unrefused phase.Filled = by-cond MoveUnrefused (eqb (s .depth) 1) (λ e. refl) (λ e. refl)
+  moves-unrefused : Moves MoveUnrefused (s .depth)
+  moves-unrefused =
+      record {
+        looked = λ next. refl;
+        shared = λ next. refl;
+        retry = λ next. refl;
+        standing = λ next. refl;
+        cleared = λ next. refl;
+        passed = λ next. refl;
+        reserve = λ t slot. refl;
+        drop = by-cond MoveUnrefused (eqb (s .depth) 1) (λ e. refl) (λ e. refl);
+        mark = λ t n. refl;
+        promote = λ n next. refl;
+        clear = λ t n. refl;
+        push = λ n. refl;
+        fill = λ p slot. refl;
+        filled = by-cond MoveUnrefused (eqb (s .depth) 1) (λ e. refl) (λ e. refl);
+      }
 
   write-not-refused : moved (planWrite s) s .tells .refusal ≡ 0
-  write-not-refused = phase-unrefused (top s .phase)
+  write-not-refused = of-planned MoveUnrefused s moves-unrefused
 
   abbrev FetchUnrefused : Fetch → Type 0
   FetchUnrefused f = fetched f s .tells .refusal ≡ 0

@@ -1,0 +1,2 @@
+-- Write: the moves that it decides on.
+pub mod Moves
