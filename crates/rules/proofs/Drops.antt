@@ -35,8 +35,8 @@ module _ (s : State) where
         reserve = λ t slot e. absurd (omega (arith, code-is e));
         drop =
             by-cond Leaves (eqb (s .depth) 1)
-            (λ d e. record { counted = refl; popped = refl; moved = λ one. refl; kept = λ deeper. absurd (deeper (eqb-true (s .depth) 1 d)) })
-            (λ d e. record { counted = refl; popped = refl; moved = λ one. absurd (eqb-false (s .depth) 1 d one); kept = λ deeper. refl });
+            (λ d e. record { counted = refl; popped = refl; moves = λ one. refl; stays = λ deeper. absurd (deeper (eqb-true (s .depth) 1 d)) })
+            (λ d e. record { counted = refl; popped = refl; moves = λ one. absurd (eqb-false (s .depth) 1 d one); stays = λ deeper. refl });
         mark = λ t n e. absurd (omega (arith, code-is e));
         promote = λ n next e. absurd (omega (arith, code-is e));
         clear = λ t n e. absurd (omega (arith, code-is e));

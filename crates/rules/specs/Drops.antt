@@ -22,9 +22,9 @@ pub record DropLeaves (s after : State) : Type 0 where
   pub counted : after .counts .dropped ≡ s .counts .dropped + 1
   pub popped : after .depth ≡ s .depth - 1
   -- "a drop at depth 1 moves commit page, commit index and committed exactly as a commit there does"
-  pub moved : s .depth ≡ 1 → committing after ≡ committing (commit s)
+  pub moves : s .depth ≡ 1 → committing after ≡ committing (commit s)
   -- deeper, as 01 has it: "nothing else"
-  pub kept : s .depth ≢ 1 → committing after ≡ committing s
+  pub stays : s .depth ≢ 1 → committing after ≡ committing s
 
 abbrev pub Drops : Type 0
 Drops = (s : State) → writeRule s .answer ≡ Dropped → DropLeaves s (writeRule s .state)
