@@ -28,6 +28,7 @@ fn k10() {
     ring = begin(ring, 30);
     ring = five_writes(ring);
     ring = write(ring);
+    text::commit_line(ring.places.commit.0, ring.places.index);
     text::number_line(b"depth", ring.depth as u64);
     text::number_line(b"committed", ring.counts.committed);
     text::receipt(ring.size, ring.receipt());
