@@ -1,5 +1,6 @@
 //! The cases of 01, "A small ring on paper", with what 01 says of each written
-//! out; the ring is held to it. The other sections of `cases` follow.
+//! out, and of K10's end what E3 of document 02 says; the ring is held to it. The other
+//! sections of `cases` follow.
 
 use self::Line::{Act, Commit, Committed, Depth, Fresh, Overwritten, ReaderPage, Words};
 use crate::builder::Builder;
@@ -28,7 +29,8 @@ enum Line {
 const SETUP: Answer = Answer::Refused(Refusal::Setup);
 
 /// Where 01 leaves an answer or a receipt unsaid ("three Writes, last Pending"; the
-/// receipts of K9 to K11), the line is worked out by hand from its rules.
+/// receipts of K9 to K11), the line is worked out by hand from its rules. E3: "K10 now
+/// ends with commit (page 1, index 1), committed 2, answer still Dropped."
 const K: [(&str, &[Line]); 12] = [
     (
         "K1",
@@ -139,9 +141,10 @@ const K: [(&str, &[Line]); 12] = [
             Act(Write, Answer::Filled),
             Act(Write, Answer::Pending),
             Act(Write, Answer::Dropped),
+            Commit(1, 1),
             Depth(0),
-            Committed(0),
-            Line::Receipt([3, 2, 0, 0, 1, 0, 2], false),
+            Committed(2),
+            Line::Receipt([3, 2, 0, 0, 1, 2, 0], false),
         ],
     ),
     (

@@ -16,7 +16,7 @@ struct Writer {
 /// and its value is the one in that writer's Begin."
 struct Reading {
     value: u32,
-    /// "an answer Committed has come after its Reserved".
+    /// "an answer Committed has come after its Reserved", or what counts as one.
     committed: bool,
     /// "an Event gave it".
     handed: bool,
@@ -127,7 +127,9 @@ impl History {
     }
 
     /// "The answer of a Write that isn't refused belongs to the latest begun writer
-    /// at work; Committed, Pending or Dropped ends that writer's work."
+    /// at work; Committed, Pending or Dropped ends that writer's work." Of a drop at depth
+    /// 1, whose writer was the only one at work, E3 of document 02: "Such a drop counts as
+    /// an answer Committed in the places of demand 3".
     fn note_write(&mut self, before: &Ring, answer: Answer) -> Result<(), String> {
         let Some(&writer) = self.at_work.last() else {
             return Err("a Write with no writer at work".to_string());
@@ -137,9 +139,7 @@ impl History {
             Answer::Marked => return self.marked(before, writer),
             Answer::Cleared => self.cleared(writer),
             Answer::Committed(_) => {
-                for reading in &mut self.readings {
-                    reading.committed = true;
-                }
+                self.committed();
                 self.at_work.pop();
             }
             Answer::Pending => {
@@ -147,11 +147,21 @@ impl History {
             }
             Answer::Dropped => {
                 self.dropped += 1;
+                if self.at_work.len() == 1 {
+                    self.committed();
+                }
                 self.at_work.pop();
             }
             _ => {}
         }
         Ok(())
+    }
+
+    /// All readings numbered so far are committed.
+    fn committed(&mut self) {
+        for reading in &mut self.readings {
+            reading.committed = true;
+        }
     }
 
     /// Numbers are given in turn, from 0, and each writer gets one.
