@@ -1,5 +1,6 @@
 //! Demand 3, tested on one list as it runs. What happened to a reading is told from
-//! the answers alone, where it lies from the ring's pages; 01, "Receipt", says how.
+//! the answers alone, where it lies from the ring's pages; 01, "Receipt", says how, and
+//! E3 of document 02 what a drop at depth 1 counts as and what holds at depth 0.
 
 use crate::ring::{
     flag_in, page_in, Action, Answer, Phase, Receipt, Refusal, Ring, HEADER, LIMIT, PAGES, UPDATE,
@@ -240,9 +241,26 @@ impl History {
             self.at_work.len() == ring.depth as usize,
             "the writers at work are not as many as the records",
         )?;
+        self.settled(ring)?;
         self.places(ring)?;
         links(ring)?;
         self.marks(ring)
+    }
+
+    /// E3's clause, "at depth 0, no reading is uncommitted": by the history, and by the
+    /// receipt.
+    fn settled(&self, ring: &Ring) -> Result<(), String> {
+        if !self.at_work.is_empty() {
+            return Ok(());
+        }
+        must(
+            self.readings.iter().all(|reading| reading.committed),
+            "at depth 0 a reading is uncommitted",
+        )?;
+        must(
+            ring.receipt().open == 0,
+            "at depth 0 the receipt has readings that are open",
+        )
     }
 
     /// "exactly one slot" of the pages: how often each reading lies there.
