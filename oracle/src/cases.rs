@@ -12,7 +12,7 @@ use crate::ring::{Action, Answer, Receipt, Refusal, Ring};
 use crate::text::{self, LastAnswers, Tally};
 use crate::trace::{self, Reach};
 
-/// A line of a case and what 01 says stands there.
+/// A line of a case and what the papers say stands there.
 enum Line {
     Fresh(u32, u32, u32, Answer),
     Act(Action, Answer),
@@ -185,7 +185,7 @@ pub fn steps(names: &[&str]) -> Vec<(Action, Answer)> {
     steps
 }
 
-/// The whole text of `cases`, or what differs from 01.
+/// The whole text of `cases`, or what differs from the papers.
 pub fn run() -> Result<String, String> {
     let mut out = String::new();
     small_ring(&mut out)?;
@@ -223,7 +223,7 @@ fn small_ring(out: &mut String) -> Result<(), String> {
     Ok(())
 }
 
-/// Prints what the ring says at a line and holds it to what 01 says.
+/// Prints what the ring says at a line and holds it to what the papers say.
 fn run_line(out: &mut String, ring: &mut Ring, line: &Line) -> Result<(), String> {
     match *line {
         Fresh(n, s, mode, expected) => {
