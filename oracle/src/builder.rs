@@ -52,8 +52,10 @@ impl Builder {
         }
     }
 
-    /// Reads until the answer is Empty or Busy.
+    /// Reads until the answer is Empty or Busy, or a refusal, so that a wrong ring ends
+    /// too.
     pub fn read_all(&mut self) {
-        while !matches!(self.act(Action::Read), Answer::Empty | Answer::Busy) {}
+        let ends = |answer| matches!(answer, Answer::Empty | Answer::Busy | Answer::Refused(_));
+        while !ends(self.act(Action::Read)) {}
     }
 }

@@ -1,5 +1,6 @@
 //! The cases of 01, "A small ring on paper", with what 01 says of each written
-//! out; the ring is held to it. The other sections of `cases` follow.
+//! out, and of K10's end what E3 of document 02 says; the ring is held to it. The other
+//! sections of `cases` follow.
 
 use self::Line::{Act, Commit, Committed, Depth, Fresh, Overwritten, ReaderPage, Words};
 use crate::builder::Builder;
@@ -11,7 +12,7 @@ use crate::ring::{Action, Answer, Receipt, Refusal, Ring};
 use crate::text::{self, LastAnswers, Tally};
 use crate::trace::{self, Reach};
 
-/// A line of a case and what 01 says stands there.
+/// A line of a case and what the papers say stands there.
 enum Line {
     Fresh(u32, u32, u32, Answer),
     Act(Action, Answer),
@@ -28,7 +29,8 @@ enum Line {
 const SETUP: Answer = Answer::Refused(Refusal::Setup);
 
 /// Where 01 leaves an answer or a receipt unsaid ("three Writes, last Pending"; the
-/// receipts of K9 to K11), the line is worked out by hand from its rules.
+/// receipts of K9 to K11), the line is worked out by hand from its rules. E3: "K10 now
+/// ends with commit (page 1, index 1), committed 2, answer still Dropped."
 const K: [(&str, &[Line]); 12] = [
     (
         "K1",
@@ -139,9 +141,10 @@ const K: [(&str, &[Line]); 12] = [
             Act(Write, Answer::Filled),
             Act(Write, Answer::Pending),
             Act(Write, Answer::Dropped),
+            Commit(1, 1),
             Depth(0),
-            Committed(0),
-            Line::Receipt([3, 2, 0, 0, 1, 0, 2], false),
+            Committed(2),
+            Line::Receipt([3, 2, 0, 0, 1, 2, 0], false),
         ],
     ),
     (
@@ -182,7 +185,7 @@ pub fn steps(names: &[&str]) -> Vec<(Action, Answer)> {
     steps
 }
 
-/// The whole text of `cases`, or what differs from 01.
+/// The whole text of `cases`, or what differs from the papers.
 pub fn run() -> Result<String, String> {
     let mut out = String::new();
     small_ring(&mut out)?;
@@ -220,7 +223,7 @@ fn small_ring(out: &mut String) -> Result<(), String> {
     Ok(())
 }
 
-/// Prints what the ring says at a line and holds it to what 01 says.
+/// Prints what the ring says at a line and holds it to what the papers say.
 fn run_line(out: &mut String, ring: &mut Ring, line: &Line) -> Result<(), String> {
     match *line {
         Fresh(n, s, mode, expected) => {

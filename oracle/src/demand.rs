@@ -1,5 +1,6 @@
 //! Demand 3, tested on one list as it runs. What happened to a reading is told from
-//! the answers alone, where it lies from the ring's pages; 01, "Receipt", says how.
+//! the answers alone, where it lies from the ring's pages; 01, "Receipt", says how, and
+//! E3 of document 02 what a drop at depth 1 counts as and what holds at depth 0.
 
 use crate::ring::{
     flag_in, page_in, Action, Answer, Phase, Receipt, Refusal, Ring, HEADER, LIMIT, PAGES, UPDATE,
@@ -16,7 +17,7 @@ struct Writer {
 /// and its value is the one in that writer's Begin."
 struct Reading {
     value: u32,
-    /// "an answer Committed has come after its Reserved".
+    /// "an answer Committed has come after its Reserved", or what counts as one.
     committed: bool,
     /// "an Event gave it".
     handed: bool,
@@ -127,7 +128,9 @@ impl History {
     }
 
     /// "The answer of a Write that isn't refused belongs to the latest begun writer
-    /// at work; Committed, Pending or Dropped ends that writer's work."
+    /// at work; Committed, Pending or Dropped ends that writer's work." Of a drop at depth
+    /// 1, whose writer was the only one at work, E3 of document 02: "Such a drop counts as
+    /// an answer Committed in the places of demand 3".
     fn note_write(&mut self, before: &Ring, answer: Answer) -> Result<(), String> {
         let Some(&writer) = self.at_work.last() else {
             return Err("a Write with no writer at work".to_string());
@@ -137,9 +140,7 @@ impl History {
             Answer::Marked => return self.marked(before, writer),
             Answer::Cleared => self.cleared(writer),
             Answer::Committed(_) => {
-                for reading in &mut self.readings {
-                    reading.committed = true;
-                }
+                self.committed();
                 self.at_work.pop();
             }
             Answer::Pending => {
@@ -147,11 +148,21 @@ impl History {
             }
             Answer::Dropped => {
                 self.dropped += 1;
+                if self.at_work.len() == 1 {
+                    self.committed();
+                }
                 self.at_work.pop();
             }
             _ => {}
         }
         Ok(())
+    }
+
+    /// All readings numbered so far are committed.
+    fn committed(&mut self) {
+        for reading in &mut self.readings {
+            reading.committed = true;
+        }
     }
 
     /// Numbers are given in turn, from 0, and each writer gets one.
@@ -230,9 +241,26 @@ impl History {
             self.at_work.len() == ring.depth as usize,
             "the writers at work are not as many as the records",
         )?;
+        self.settled(ring)?;
         self.places(ring)?;
         links(ring)?;
         self.marks(ring)
+    }
+
+    /// E3's clause, "at depth 0, no reading is uncommitted": by the history, and by the
+    /// receipt.
+    fn settled(&self, ring: &Ring) -> Result<(), String> {
+        if !self.at_work.is_empty() {
+            return Ok(());
+        }
+        must(
+            self.readings.iter().all(|reading| reading.committed),
+            "at depth 0 a reading is uncommitted",
+        )?;
+        must(
+            ring.receipt().open == 0,
+            "at depth 0 the receipt has readings that are open",
+        )
     }
 
     /// "exactly one slot" of the pages: how often each reading lies there.

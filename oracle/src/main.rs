@@ -1,8 +1,8 @@
 //! The ring's rules a second time, written from document 01 and not from the
 //! ring's code; where 01 leaves a point open, by docs/DECISIONS.md. The trace's are
-//! from request E1 of document 02, the drain's from E2. `oracle cases`, `random`,
-//! `replay` and `encode` print what docs/PROGRAMS.md says; `oracle samples` and `traces`
-//! write files for `replay`, `oracle texts` for `encode`.
+//! from request E1 of document 02, the drain's from E2, what a drop commits from E3.
+//! `oracle cases`, `random`, `replay` and `encode` print what docs/PROGRAMS.md says;
+//! `oracle samples` and `traces` write files for `replay`, `oracle texts` for `encode`.
 
 mod actions;
 mod builder;

@@ -1,4 +1,5 @@
-//! The ring of document 01, in its words. What stands in quotes is 01's.
+//! The ring of document 01, in its words. What stands in quotes is 01's or, where E3 is
+//! named, that request's of document 02.
 
 /// "4,294,967,295": the limit of every count.
 pub const LIMIT: u64 = 4_294_967_295;
@@ -393,10 +394,17 @@ impl Ring {
         }
     }
 
-    /// "Dropped: dropped + 1, record popped, nothing else."
+    /// "Dropped: dropped + 1, record popped, nothing else." But E3: "a drop at depth 1
+    /// moves commit page, commit index and committed exactly as a commit there does,
+    /// after counting the drop"; "answer still Dropped". Its depth is the one before the
+    /// pop, as a commit's.
     fn drop_reading(&mut self) -> Answer {
+        let outermost = self.depth == 1;
         self.dropped += 1;
         self.pop();
+        if outermost {
+            self.commit();
+        }
         Answer::Dropped
     }
 
@@ -471,9 +479,8 @@ impl Ring {
         self.step(Phase::Filled, Answer::Filled)
     }
 
-    /// "FILLED: record popped. At depth 1 before the pop, the commit page becomes
-    /// the tail page, the commit index that page's used, committed becomes taken:
-    /// answer Committed(committed). Deeper: answer Pending."
+    /// "FILLED: record popped. At depth 1 before the pop, ...: answer
+    /// Committed(committed). Deeper: answer Pending."
     #[inline]
     fn finish(&mut self) -> Answer {
         let outermost = self.depth == 1;
@@ -481,10 +488,17 @@ impl Ring {
         if !outermost {
             return Answer::Pending;
         }
+        self.commit();
+        Answer::Committed(self.committed as u32)
+    }
+
+    /// "the commit page becomes the tail page, the commit index that page's used,
+    /// committed becomes taken": a commit's, and from E3 on a drop's at depth 1.
+    #[inline]
+    fn commit(&mut self) {
         self.commit_page = self.tail_page;
         self.commit_index = self.used[self.commit_page as usize];
         self.committed = self.taken;
-        Answer::Committed(self.committed as u32)
     }
 
     /// "Read" in its three phases.

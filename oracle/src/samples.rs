@@ -193,9 +193,10 @@ fn nested() -> Result<Script, String> {
     Ok(script)
 }
 
+/// "K10 and then Reads until Empty": E3 of document 02 is about its nested readings.
 fn stuck() -> Result<Script, String> {
-    let about = "Two readings taken inside a third stay in the logger, not finished: \
-                 the third finds no room.";
+    let about = "Two readings taken inside another one are finished when it is dropped, \
+                 and are handed out.";
     let mut script = Script::new(about, paper(&["K10"])?);
     script.notes.extend([
         (0, "A first reading is begun, and has no place yet."),
@@ -204,8 +205,13 @@ fn stuck() -> Result<Script, String> {
             "A second one comes in between, and takes the first page.",
         ),
         (5, "So does a third, on the other page."),
-        (11, "Now the first finds no room, and is dropped."),
+        (
+            11,
+            "Now the first finds no room, and is dropped; that finishes the two others.",
+        ),
     ]);
+    script.note("They do not stay in the logger: both are handed out.");
+    script.builder.read_all();
     Ok(script)
 }
 
@@ -304,6 +310,7 @@ fn changed(builder: &Builder, place: usize, byte: u8) -> Vec<u8> {
 #[cfg(test)]
 mod tests {
     use super::*;
+    use crate::ring::Answer;
 
     #[test]
     fn texts() {
@@ -319,5 +326,23 @@ mod tests {
         script.note("Three.");
         let due = "# All.\nfresh 3 16 stop\n# One.\nbegin 70\nwrite\n# Two.\nread\n# Three.\n";
         assert_eq!(script.text(), due);
+    }
+
+    #[test]
+    fn stuck_no_more() {
+        let made = stuck().unwrap().builder.made;
+        let reads = &made[cases::steps(&["K10"]).len()..];
+        let due = [
+            Answer::Found,
+            Answer::Prepared,
+            Answer::Swapped,
+            Answer::Event(0, 20),
+            Answer::Found,
+            Answer::Prepared,
+            Answer::Swapped,
+            Answer::Event(1, 30),
+            Answer::Empty,
+        ];
+        assert_eq!(reads, due.map(|answer| (Read, answer)));
     }
 }
