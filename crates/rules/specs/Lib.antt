@@ -30,3 +30,4 @@ pub mod ReplayCases
 pub mod Drain
 pub mod DrainCases
 pub mod Drops
+pub mod Emptied

@@ -35,7 +35,7 @@ ending-not-quiet q =
     let z : _≡_ {A = ℕ} 0 1 = cc in
     omega arith
 
-not-quiet : {a : Answer} → Brought (Given a) → drainKind a ≡ quiet → ⊥
+pub not-quiet : {a : Answer} → Brought (Given a) → drainKind a ≡ quiet → ⊥
 not-quiet (anEvent n v) q = event-not-quiet _ q
 not-quiet anEmpty q = ending-not-quiet q
 not-quiet aBusy q = ending-not-quiet q
@@ -43,7 +43,7 @@ not-quiet aBusy q = ending-not-quiet q
 -- ---- Reads in a row
 
 -- what follows an outcome: `readsInRow later (suc left) r last` is this of the Read of r
-abbrev following : (State → Last → DrainOutcome) → ℕ → Outcome → DrainOutcome
+abbrev pub following : (State → Last → DrainOutcome) → ℕ → Outcome → DrainOutcome
 following later left o = afterRead later (readsInRow later left) o
 
 -- any two limits that are not too low

@@ -38,10 +38,10 @@ use Rattle.rules.proofs.runs.Reached.{RingOk, ok-shape, reached-ok}
 
 module _ (s : State) (g : RingOk s) where
   -- the rule of a phase
-  abbrev by-phase : ReaderPhase → Fetch
+  abbrev pub by-phase : ReaderPhase → Fetch
   by-phase ph = planReader ph (s .size) (s .places) (s .words) (s .used)
 
-  read-is : (ph : ReaderPhase) → s .reader .phase ≡ ph → readRule s ≡ fetched (by-phase ph) s
+  pub read-is : (ph : ReaderPhase) → s .reader .phase ≡ ph → readRule s ≡ fetched (by-phase ph) s
   read-is ph q =
       let ruled : readRule s ≡ fetched (by-phase (s .reader .phase)) s = rw (ok-shape s g) refl in
       ruled ∙ ap (λ (f : ReaderPhase). fetched (by-phase f) s) q
@@ -138,7 +138,7 @@ found-soon : (s : State) → RingOk s → (k p h : ℕ) → s .reader .phase ≡
 found-soon s g k p h q = read-soon s g (Found p h) q (λ z. next refl (ready-soon (prepare (page p) (page h) s) z k p h refl))
 
 -- from any phase: the first Read, and at most five more
-within-six : (s : State) → RingOk s → Soon 5 (readRule s)
+pub within-six : (s : State) → RingOk s → Soon 5 (readRule s)
 within-six s g = go (s .reader .phase) refl
   where
     go : (ph : ReaderPhase) → s .reader .phase ≡ ph → Soon 5 (readRule s)
