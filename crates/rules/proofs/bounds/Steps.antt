@@ -11,7 +11,7 @@ use lib.Seq.{getD-set-same, getD-set-other, set-out}
 use Rattle.rules.specs.Limits.{mostCount}
 use Rattle.rules.specs.State.{page, writer, noWriter, withWords, slotIndex, setPhase, pop, State}
 use Rattle.rules.specs.Begin.{begin}
-use Rattle.rules.specs.Write.{reserve, drop, dropCommit, commit}
+use Rattle.rules.specs.Write.{reserve}
 use Rattle.rules.specs.Read.{prepare, swap}
 use Rattle.rules.specs.declared.state.PageNo.{PageNo}
 use Rattle.rules.specs.declared.state.WriterPhase.{WriterPhase}
@@ -84,6 +84,7 @@ module _ (s : State) (k : BoundsOf s) where
         aims = bounds-phase some room (phase.Held t slot) tt .aims;
       }
 
+  -- the top record is popped: all that a Pending, a drop and a commit change of it
   pub bounds-pop : BoundsOf (pop s)
   bounds-pop =
       record {
@@ -93,15 +94,6 @@ module _ (s : State) (k : BoundsOf s) where
         readerFits = k .readerFits;
         aims = λ i hi. rw (phase-other (s .stack) (topAt s) i noWriter (omega arith)) (k .aims i (omega arith));
       }
-
-  pub bounds-drop : BoundsOf (drop s)
-  bounds-drop = bounds-pop
-
-  pub bounds-dropCommit : BoundsOf (dropCommit s)
-  bounds-dropCommit = bounds-pop
-
-  pub bounds-commit : BoundsOf (commit s)
-  bounds-commit = bounds-pop
 
   pub bounds-begin : s .depth < length (s .stack) → s .counts .begun ≢ mostCount → (v : ℕ) → BoundsOf (begin v s .state)
   bounds-begin room more v =

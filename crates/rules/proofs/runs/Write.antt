@@ -37,7 +37,7 @@ use Rattle.rules.proofs.accounts.Phase.{words-accounts, phase-accounts}
 use Rattle.rules.proofs.accounts.Pop.{ended-accounts, dropped-accounts}
 use Rattle.rules.proofs.accounts.Push.{tail-accounts}
 use Rattle.rules.proofs.accounts.Reserve.{reserved-accounts}
-use Rattle.rules.proofs.bounds.Steps.{words-fit, bounds-flag, bounds-phase, bounds-reserve, bounds-pop, bounds-drop, bounds-dropCommit, bounds-commit}
+use Rattle.rules.proofs.bounds.Steps.{words-fit, bounds-flag, bounds-phase, bounds-reserve, bounds-pop}
 use Rattle.rules.proofs.control.Clear.{cleared-control}
 use Rattle.rules.proofs.control.Commit.{commit-control}
 use Rattle.rules.proofs.control.Fill.{filled-control}
@@ -146,14 +146,14 @@ module _ (x : ℕ) {s : State} {h : History} (g : Invariant s h) (deep : 1 ≤ s
         (commit-control control none)
         (commit-accounts control dropped none)
         (fates-committed drop-fates)
-        (bounds-dropCommit s (g .bounds))
+        (bounds-pop s (g .bounds))
         (λ z. refl))
 
     deeper-next : eqb (s .depth) 1 ≡ false → After move.Drop
     deeper-next d =
         let deeper = eqb-false (s .depth) 1 d in
         rw (working-is false d)
-        (holds-same g (dropped-control v deep want) dropped drop-fates (bounds-drop s (g .bounds)) (λ none. absurd (omega arith)))
+        (holds-same g (dropped-control v deep want) dropped drop-fates (bounds-pop s (g .bounds)) (λ none. absurd (omega arith)))
 
     drop-next : After (planDrop (s .depth))
     drop-next = by-cond After (eqb (s .depth) 1) alone-next deeper-next
@@ -302,7 +302,7 @@ module _ (x : ℕ) {s : State} {h : History} (g : Invariant s h) (deep : 1 ≤ s
         (commit-control control none)
         (commit-accounts control (ended-accounts b deep (v .depth) filled) none)
         (fates-committed ended-fates)
-        (bounds-commit s (g .bounds))
+        (bounds-pop s (g .bounds))
         (λ z. refl)
 
     pend-next : s .depth ≢ 1 → After move.Pend
