@@ -36,7 +36,7 @@ use rules::state::Size;
 use rules::state::Writer;
 use rules::state::WriterPhase;
 
-// A drop: the outermost writer's commits what writers inside it left.
+// A drop. At depth 1 it also commits what the writers inside left.
 fn plan_drop(depth: u32) -> Move
     ensures { λ r. ⌜ r ≡ planDrop depth ⌝ }
 {

@@ -23,8 +23,8 @@ module _ (s : State) where
   abbrev Leaves : Move → Type 0
   Leaves m = moved m s .answer ≡ Dropped → DropLeaves s (moved m s .state)
 
-  moves : Moves Leaves (s .depth)
-  moves =
+  each-leaves : Moves Leaves (s .depth)
+  each-leaves =
       record {
         looked = λ next e. absurd (omega (arith, code-is e));
         shared = λ next e. absurd (omega (arith, code-is e));
@@ -54,5 +54,5 @@ drops s =
     (λ fits.
     by-bool (eqb (s .depth) 0)
     (λ d. rw (fits, d) (λ e. absurd (omega (arith, code-is e))))
-    (λ d. rw (fits, d) (of-planned (Leaves s) s (moves s))))
+    (λ d. rw (fits, d) (of-planned (Leaves s) s (each-leaves s))))
     (λ broken. rw broken (λ e. absurd (omega (arith, code-is e))))

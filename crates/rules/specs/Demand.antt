@@ -218,7 +218,7 @@ pub record Claim (c : Receipt) (r : Run) : Type 0 where
   pub marks : OneHeader (r .now) ⊎ NoHeader r
   -- .. and "Only the writer that made the mark clears it": whoever is about to is the writer of the mark
   pub clears : (t n : PageNo) → 0 < r .now .depth → top (r .now) .phase ≡ Clear t n → r .past .marker t ≡ By (latest (r .past .working) .nth)
-  -- 10. E3: "at depth 0, no reading is uncommitted": each numbered reading is committed, and the receipt has none open
+  -- 10 (8 and 9 are below). E3: "at depth 0, no reading is uncommitted": each numbered reading is committed, and the receipt has none open
   pub eachCommitted : r .now .depth ≡ 0 → (m : ℕ) → m < c .taken → isCommitted (r .past .readings) m ≡ true
   pub noneOpen : r .now .depth ≡ 0 → c .«open» ≡ 0
 

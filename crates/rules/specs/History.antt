@@ -59,7 +59,7 @@ onCommitted h = onEnded (withAllCommitted h)
 abbrev pub withDropper : History → History
 withDropper h = withDroppers (h .droppers ++ (latest (h .working) ∷ [])) h
 
--- E3: a drop at depth 1 "counts as an answer Committed in the places of demand 3": that it is at depth 1 is told by who is at work, its writer alone
+-- E3: "Such a drop counts as an answer Committed": depth 1 is told by who is at work, only the one that is dropped
 abbrev pub onDropped : History → History
 onDropped h = cond (eqb (length (h .working)) 1) (onCommitted (withDropper h)) (onEnded (withDropper h))
 

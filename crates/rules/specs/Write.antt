@@ -29,7 +29,7 @@ use Rattle.rules.specs.declared.moves.Move.the-variants.{Become, Reserve
 abbrev pub planDrop : ℕ → Move
 planDrop depth = cond (eqb depth 1) DropCommit Drop
 
--- t full: "First that applies", for a page n and a flag
+-- t full: "First that applies", for a depth, a page n and a flag
 abbrev pub planFull : Size → Places → ℕ → PageNo → ℕ → Move
 planFull size places depth n flag =
     first

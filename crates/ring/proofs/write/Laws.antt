@@ -34,10 +34,11 @@ allows true depth h =
     (λ d. absurd (refused-is-not-allowed _ (rw d at h)))
     (λ d. record { shape = refl; somebody = eqb-false depth 0 d })
 
--- a full tail page leads to a drop or to another phase, which name nothing to store to
+-- a drop names nothing to store to
 drop-precondition : (depth : ℕ) → MovePrecondition (planDrop depth)
 drop-precondition depth = by-cond MovePrecondition (eqb depth 1) (λ e. tt) (λ e. tt)
 
+-- a full tail page leads to a drop or to another phase, which names nothing either
 full-precondition : (r : State) (n : PageNo) (flag : ℕ) → MovePrecondition (planFull (r .size) (r .places) (r .depth) n flag)
 full-precondition r n flag =
     by-cond MovePrecondition (samePage (r .places .tail) (r .places .reader)) (λ e. tt) (λ e.

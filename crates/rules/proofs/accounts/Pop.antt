@@ -1,4 +1,4 @@
--- A popped record keeps the accounts: that of a Pending and of a Committed, and that of a Dropped, which is counted.
+-- A popped record keeps the accounts: a Pending and a Committed pop one in FILLED, a Dropped, which is counted, one in WANT.
 -- Assumes nothing.
 use mathlib.Core.Path.{_≡_, sym, ap, _∙_, subst}
 use mathlib.Core.List.{List}
@@ -63,8 +63,8 @@ module _ {s : State} {h : History} {L : ℕ → ℕ} {pc pt a r0 gap : ℕ} (b :
       let y : _≡_ {A = ℕ} 0 1 = cc in
       omega arith
 
-  pub ended-accounts : top s .phase ≡ phase.Filled → Accounts (pop s) (onEnded h) L pc pt a r0 gap
-  ended-accounts q =
+  pub finished-accounts : top s .phase ≡ phase.Filled → Accounts (pop s) (onEnded h) L pc pt a r0 gap
+  finished-accounts q =
       record {
         contents = b .contents;
         sums = b .sums;

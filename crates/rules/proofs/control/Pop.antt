@@ -1,4 +1,4 @@
--- A popped record that owns no mark keeps control: that of a Pending and of a Committed, and that of a Dropped.
+-- A popped record that owns no mark keeps control: a Pending and a Committed pop one in FILLED, a Dropped one in WANT.
 -- Assumes nothing.
 use mathlib.Core.Path.{_≡_, sym, subst}
 use mathlib.Core.Logic.{_≢_}
@@ -55,8 +55,8 @@ module _ {s : State} {L : ℕ → ℕ} {pc pt : ℕ} (v : Control s L pc pt) (de
         reader = v .reader;
       }
 
-  pub ended-control : top s .phase ≡ phase.Filled → Control (pop s) L pc pt
-  ended-control ph = popped-control (subst Free (sym ph) (λ p o. o))
+  pub finished-control : top s .phase ≡ phase.Filled → Control (pop s) L pc pt
+  finished-control ph = popped-control (subst Free (sym ph) (λ p o. o))
 
   pub dropped-control : top s .phase ≡ phase.Want → Control (drop s) L pc pt
   dropped-control ph = unread-control (popped-control (subst Free (sym ph) (λ p o. o))) _ _ _

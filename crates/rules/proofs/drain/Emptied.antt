@@ -125,6 +125,7 @@ module _ (space : ℕ) (later : State → Last → DrainOutcome)
       let t = in-row (o .state) (readRule (o .state)) (read-leaves (o .state) g (r .none)) (ok-read (o .state) g) (omega arith) rest n (omega arith) in
       rw q (record { last = t .last; events = t .events ∙ sym same; all = t .all })
 
+-- a row is its first Read and at most seven more
 drain-empties : (space : ℕ) (s : State) → RingOk s → s .depth ≡ 0 → waiting (s .counts) < space → (last : Last) → Emptied s (drainReads mostInRow space s last)
 drain-empties zero s g none lt last = absurd (omega arith)
 drain-empties (suc space) s g none lt last =

@@ -1,4 +1,4 @@
--- The fifth part of the invariant: with no writer at work every number given is committed. A commit and the outermost writer's drop see to it.
+-- The fifth part of the invariant: with no writer at work every number given is committed. A commit and the outermost writer's drop make it so.
 -- Assumes nothing.
 use mathlib.Core.Path.{_≡_}
 use Rattle.rules.specs.State.{State}

@@ -114,7 +114,7 @@ module _ (n : ℕ) (n2 : 2 ≤ n) (n16 : n ≤ mostPages) where
         only = λ p hp pr f. by-eq p (n - 1) (λ q. q ∙ sym place-last) (λ q. absurd (omega (arith, flag-plain p hp q)));
       }
 
--- ---- the four parts
+-- ---- the five parts
 
 module _ (size : Size) (fits : sizeFits size ≡ true) where
   abbrev s : State

@@ -34,7 +34,7 @@ use Rattle.rules.proofs.accounts.Commit.{commit-accounts}
 use Rattle.rules.proofs.accounts.Fill.{filled-accounts}
 use Rattle.rules.proofs.accounts.Mark.{marked-accounts}
 use Rattle.rules.proofs.accounts.Phase.{words-accounts, phase-accounts}
-use Rattle.rules.proofs.accounts.Pop.{ended-accounts, dropped-accounts}
+use Rattle.rules.proofs.accounts.Pop.{finished-accounts, dropped-accounts}
 use Rattle.rules.proofs.accounts.Push.{tail-accounts}
 use Rattle.rules.proofs.accounts.Reserve.{reserved-accounts}
 use Rattle.rules.proofs.bounds.Steps.{words-fit, bounds-flag, bounds-phase, bounds-reserve, bounds-pop}
@@ -44,7 +44,7 @@ use Rattle.rules.proofs.control.Fill.{filled-control}
 use Rattle.rules.proofs.control.Look.{look-reader, look-push, look-mark}
 use Rattle.rules.proofs.control.Mark.{retry-control, shared-control, marked-control}
 use Rattle.rules.proofs.control.Phase.{head-of, tail-le, top-below, top-ok}
-use Rattle.rules.proofs.control.Pop.{ended-control, dropped-control}
+use Rattle.rules.proofs.control.Pop.{finished-control, dropped-control}
 use Rattle.rules.proofs.control.Promote.{own-after, standing-control, promoted-control}
 use Rattle.rules.proofs.control.Push.{passed-control, pushed-control}
 use Rattle.rules.proofs.control.Reserve.{reserved-control}
@@ -125,9 +125,9 @@ module _ (x : ℕ) {s : State} {h : History} (g : Invariant s h) (deep : 1 ≤ s
         (bounds-reserve s (g .bounds) deep (v .depth) (s .places .tail) (usedOf s (T s)))
         (λ none. absurd (omega arith))
 
-    -- what a drop changes, wherever commit is
-    abbrev dropped : Accounts (drop s) (onEnded (withDropper h)) (g .L) (g .pc) (g .pt) (g .a) (g .r0) (g .gap)
-    dropped = dropped-accounts b deep (v .depth) want
+    -- the drop alone, before commit moves
+    abbrev drop-accounts : Accounts (drop s) (onEnded (withDropper h)) (g .L) (g .pc) (g .pt) (g .a) (g .r0) (g .gap)
+    drop-accounts = dropped-accounts b deep (v .depth) want
 
     drop-fates : FatesOf (drop s) (onEnded (withDropper h))
     drop-fates = fates-dropped (g .fates) deep (early-below noWriter) (ap early want)
@@ -144,7 +144,7 @@ module _ (x : ℕ) {s : State} {h : History} (g : Invariant s h) (deep : 1 ≤ s
         rw (working-is true d)
         (holds (g .L) (g .pt) (g .pt) (g .a) (g .r0) (g .gap)
         (commit-control control none)
-        (commit-accounts control dropped none)
+        (commit-accounts control drop-accounts none)
         (fates-committed drop-fates)
         (bounds-pop s (g .bounds))
         (λ z. refl))
@@ -153,7 +153,7 @@ module _ (x : ℕ) {s : State} {h : History} (g : Invariant s h) (deep : 1 ≤ s
     deeper-next d =
         let deeper = eqb-false (s .depth) 1 d in
         rw (working-is false d)
-        (holds-same g (dropped-control v deep want) dropped drop-fates (bounds-pop s (g .bounds)) (λ none. absurd (omega arith)))
+        (holds-same g (dropped-control v deep want) drop-accounts drop-fates (bounds-pop s (g .bounds)) (λ none. absurd (omega arith)))
 
     drop-next : After (planDrop (s .depth))
     drop-next = by-cond After (eqb (s .depth) 1) alone-next deeper-next
@@ -291,26 +291,26 @@ module _ (x : ℕ) {s : State} {h : History} (g : Invariant s h) (deep : 1 ≤ s
       (g .noneOpen)
 
   module _ (filled : top s .phase ≡ phase.Filled) where
-    ended-fates : FatesOf (pop s) (onEnded h)
-    ended-fates = fates-ended (g .fates) deep (early-below noWriter) (ap early filled)
+    finished-fates : FatesOf (pop s) (onEnded h)
+    finished-fates = fates-ended (g .fates) deep (early-below noWriter) (ap early filled)
 
     commit-next : s .depth ≡ 1 → After move.Commit
     commit-next one =
         let none : s .depth - 1 ≡ 0 = omega arith in
-        let control = ended-control v deep filled in
+        let control = finished-control v deep filled in
         holds (g .L) (g .pt) (g .pt) (g .a) (g .r0) (g .gap)
         (commit-control control none)
-        (commit-accounts control (ended-accounts b deep (v .depth) filled) none)
-        (fates-committed ended-fates)
+        (commit-accounts control (finished-accounts b deep (v .depth) filled) none)
+        (fates-committed finished-fates)
         (bounds-pop s (g .bounds))
         (λ z. refl)
 
     pend-next : s .depth ≢ 1 → After move.Pend
     pend-next deeper =
         holds-same g
-        (ended-control v deep filled)
-        (ended-accounts b deep (v .depth) filled)
-        ended-fates
+        (finished-control v deep filled)
+        (finished-accounts b deep (v .depth) filled)
+        finished-fates
         (bounds-pop s (g .bounds))
         (λ none. absurd (omega arith))
 

@@ -1,4 +1,4 @@
--- `plan_drop` is the rule of a drop: one that commits at depth 1, and deeper none that does. Assumes nothing.
+-- `plan_drop` is the rule of a drop: at depth 1 one that commits, deeper one that does not. Assumes nothing.
 use borrow.Author.Tests.{eq-eqb, ne-eqb}
 use Rattle.ring.proofs.write.plan_drop.Statement.{statement}
 use Rattle.ring.proofs.write.plan_drop.Tie as tie

@@ -1,5 +1,5 @@
 -- `plan_full` is the rule of a full tail page: the tests of the cases, in their order. The tests that failed are named as the rule has them.
--- What a drop is was decided before them. Assumes nothing.
+-- Which of the two drops it is was decided before them. Assumes nothing.
 use mathlib.Core.Path.{_≡_}
 use mathlib.Core.Bool.{false, _&&_}
 use borrow.Author.Needs.{needs}
