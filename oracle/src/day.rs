@@ -80,7 +80,7 @@ impl Day {
         Some(format!("refused {}{why}", label(refusal)))
     }
 
-    /// "The length is `52 bytes`, or `more than 65536 bytes`, and then `, read whole`;
+    /// "The length is `49 bytes`, or `more than 65536 bytes`, and then `, read whole`;
     /// `, refused 9 ACTION: read up to byte 16`; or `, refused 6 MARK: nothing read`".
     pub fn length(&self) -> String {
         let length = match self.bytes {

@@ -198,7 +198,7 @@ impl Counts {
         self.complete + self.not_complete + self.refused + self.unreadable
     }
 
-    /// "`13 traces: 3 complete, 4 not complete, 6 refused, 0 unreadable`".
+    /// "`13 traces: 1 complete, 6 not complete, 6 refused, 0 unreadable`".
     fn line(&self) -> String {
         format!(
             "{}: {} complete, {} not complete, {} refused, {} unreadable\n",
