@@ -36,11 +36,11 @@ pub record Moves (P : Move → Type 0) (depth : ℕ) : Type 0 where
 module _ (P : Move → Type 0) (s : State) (m : Moves P (s .depth)) where
   full : (n : PageNo) (flag : ℕ) → P (planFull (s .size) (s .places) (s .depth) n flag)
   full n flag =
-      by-cond P (samePage (s .places .tail) (s .places .reader)) (λ e. m .looked _) (λ e.
-      by-cond P (samePage n (s .places .commit)) (λ e. m .drop) (λ e.
-      by-cond P (eqb flag headerFlag && readerOnCommit (s .places)) (λ e. m .drop) (λ e.
-      by-cond P (eqb flag headerFlag && eqb (s .size .mode) stopMode) (λ e. m .drop) (λ e.
-      by-cond P (eqb flag headerFlag || eqb flag updateFlag) (λ e. m .looked _) (λ e. m .looked _)))))
+      by-cond P (samePage (s .places .tail) (s .places .reader)) (λ e. search (m .looked, m .drop)) (λ e.
+      by-cond P (samePage n (s .places .commit)) (λ e. search (m .looked, m .drop)) (λ e.
+      by-cond P (eqb flag headerFlag && readerOnCommit (s .places)) (λ e. search (m .looked, m .drop)) (λ e.
+      by-cond P (eqb flag headerFlag && eqb (s .size .mode) stopMode) (λ e. search (m .looked, m .drop)) (λ e.
+      by-cond P (eqb flag headerFlag || eqb flag updateFlag) (λ e. search (m .looked, m .drop)) (λ e. search (m .looked, m .drop))))))
 
   promoted : (found : Search) (n : PageNo) (next : WriterPhase) → P (promoteBy found n next)
   promoted (found.At p h) n next = m .standing next
