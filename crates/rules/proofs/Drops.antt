@@ -5,14 +5,18 @@ use native.Mathlib.Omega.{arith}
 use borrow.Author.Tests.{eqb-true, eqb-false}
 use lib.Dec.{eqb}
 use Rattle.rules.specs.State.{State}
+use Rattle.rules.specs.Answers.{Outcome}
+use Rattle.rules.specs.Refusals.{writeVerdict, judged}
 use Rattle.rules.specs.Shape.{inShape}
-use Rattle.rules.specs.Write.{moved}
+use Rattle.rules.specs.Write.{planWrite, moved}
 use Rattle.rules.specs.Codes.{numbersOf}
 use Rattle.rules.specs.Drops.{DropLeaves, Drops}
 use Rattle.rules.specs.declared.state.Answer.{Answer}
 use Rattle.rules.specs.declared.state.Answer.the-variants.{Dropped}
+use Rattle.rules.specs.declared.moves.Verdict.{Verdict}
+use Rattle.rules.specs.declared.moves.Verdict.the-variants.{Allowed, Refused}
 use Rattle.rules.specs.declared.moves.Move.{Move}
-use Rattle.rules.proofs.Lists.{by-bool, by-cond}
+use Rattle.rules.proofs.Lists.{by-cond}
 use Rattle.rules.proofs.write.Moves.{Moves, of-planned}
 
 -- answers are told apart by their codes
@@ -48,11 +52,11 @@ module _ (s : State) where
             (λ d e. absurd (omega (arith, code-is e)));
       }
 
+-- a refused Write is not answered Dropped
+by-verdict : (v : Verdict) (s : State) (o : Outcome) → (o .answer ≡ Dropped → DropLeaves s (o .state)) → judged v s o .answer ≡ Dropped
+    → DropLeaves s (judged v s o .state)
+by-verdict Allowed s o leaves e = leaves e
+by-verdict (Refused why) s o leaves e = absurd (omega (arith, code-is e))
+
 pub drops : Drops
-drops s =
-    by-bool (inShape s)
-    (λ fits.
-    by-bool (eqb (s .depth) 0)
-    (λ d. rw (fits, d) (λ e. absurd (omega (arith, code-is e))))
-    (λ d. rw (fits, d) (of-planned (Leaves s) s (each-leaves s))))
-    (λ broken. rw broken (λ e. absurd (omega (arith, code-is e))))
+drops s = by-verdict (writeVerdict (inShape s) (s .depth)) s (moved (planWrite s) s) (of-planned (Leaves s) s (each-leaves s))
