@@ -1,5 +1,7 @@
 // What is timed: a loop of actions by value, each on the ring that the last one returned, by the methods themselves and by `Ring::act`; the replay
 // of a trace, in place; and the drain of the ring that a trace leaves, in place.
+#![tactic(auto)]
+
 ghost use Rattle.std.specs.Prelude.{◌≡◌, length};
 ghost use Rattle.rules.specs.Drain.{drain_rule, buffer_after};
 ghost use Rattle.trace.specs.Header.{first_action};

@@ -18,7 +18,7 @@ const MOST_DRAINS: u32 = 1000;
 const TWO_32: u64 = 4294967296;
 
 // What is seen of one drain: the ring, the last answer, how many elements were filled, and how many of them stand in their order.
-#[derive(Drop)]
+#[derive(Clone, Copy)]
 pub(crate) struct Seen {
     ring: Ring,
     pub(crate) last: Last,
@@ -27,7 +27,7 @@ pub(crate) struct Seen {
 }
 
 // The ring, and what is seen of all drains so far.
-#[derive(Drop)]
+#[derive(Clone, Copy)]
 struct Evening {
     ring: Ring,
     drains: u64,

@@ -4,7 +4,7 @@ ghost use Rattle.std.specs.Prelude.{◌≤◌, length};
 use ring::{Action, Ring};
 
 // What a line says.
-#[derive(Drop)]
+#[derive(Clone, Copy)]
 pub enum Said {
     // no word
     Nothing,
@@ -16,14 +16,14 @@ pub enum Said {
 }
 
 // A number of 32 bits, or none.
-#[derive(Drop)]
+#[derive(Clone, Copy)]
 enum Number {
     Is(u32),
     None,
 }
 
 // A word of a line: from a place up to another, which is the same where there is no word left.
-#[derive(Drop)]
+#[derive(Clone, Copy)]
 struct Word {
     from: usize,
     to: usize,

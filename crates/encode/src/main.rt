@@ -1,4 +1,6 @@
 // Makes a trace of a text of actions, one a line, and writes it to standard output.
+#![tactic(auto)]
+
 mod line; // what a line says
 mod write; // the lines of a text, put into a trace
 

@@ -7,7 +7,7 @@ use std::num::wrapping_add_u64;
 use trace::{Put, put_action, put_header};
 
 // Why a line is refused.
-#[derive(Drop)]
+#[derive(Clone, Copy)]
 pub enum Why {
     // it says nothing that a text may say
     Unknown,
@@ -20,7 +20,7 @@ pub enum Why {
 }
 
 // What a text gives.
-#[derive(Drop)]
+#[derive(Clone, Copy)]
 pub enum Written {
     // the trace's length
     Whole(usize),
@@ -31,7 +31,7 @@ pub enum Written {
 }
 
 // What one line gives: the place in the trace after it, or why it is refused.
-#[derive(Drop)]
+#[derive(Clone, Copy)]
 enum Taken {
     To(usize),
     Not(Why),

@@ -1,5 +1,7 @@
 // What the programs share that read files: the bytes of a file or of standard input, a word of an argument or of a text, and the status that a program
 // tells. No function has a `requires`.
+#![tactic(auto)]
+
 mod load; // the bytes of a file
 mod names; // room for a file's name
 mod words; // whether bytes are a word

@@ -4,7 +4,7 @@ ghost use Rattle.io.specs.Counts.{IsPrefixLen};
 use libc::STDIN_FILENO;
 
 // What was read of a file.
-#[derive(Drop)]
+#[derive(Clone, Copy)]
 pub struct Loaded {
     // whether it could be read
     pub good: bool,

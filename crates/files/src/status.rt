@@ -3,7 +3,7 @@
 const STATUS_FILENO: i32 = 3;
 
 // What a program has to tell, the worst last.
-#[derive(Drop)]
+#[derive(Clone, Copy)]
 pub enum Status {
     // all was read whole
     Whole,

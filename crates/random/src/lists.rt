@@ -18,7 +18,7 @@ const GROUP: u32 = 672;
 pub(crate) const GROUPS: u32 = 30;
 
 // Of a hundred actions: below which draw a Begin is made, and below which a Write.
-#[derive(Drop)]
+#[derive(Clone, Copy)]
 struct Shares {
     begin: u32,
     write: u32,

@@ -1,4 +1,6 @@
 // Runs the ring on random lists of actions and on random states, in shape and out of it, drains both, and prints digests of all that comes back.
+#![tactic(auto)]
+
 mod draws; // the generator
 mod digest; // numbers, answers, rings, receipts and buffers folded into a digest
 mod lists; // lists of actions from a fresh ring

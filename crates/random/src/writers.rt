@@ -7,7 +7,7 @@ use ring::words::page_in;
 use rules::state::{Reader, ReaderPhase, Writer, WriterPhase};
 
 // A phase's code, the two numbers that it holds, and whether the update mark is the writer's own; what a code has no use for is 0 or false.
-#[derive(Drop)]
+#[derive(Clone, Copy)]
 pub struct PhaseDraw {
     pub code: u32,
     pub first: u32,

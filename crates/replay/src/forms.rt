@@ -13,7 +13,7 @@ pub const BYTES: usize = MOST_LENGTH + 1;
 // Room for the answers of the longest trace: one to each byte after its header.
 pub const ANSWERS: usize = NUMBERS_PER_ANSWER * (MOST_LENGTH - FIRST_ACTION);
 
-#[derive(Drop)]
+#[derive(Clone, Copy)]
 pub enum Form {
     // each action with its answer, a refusal, and the receipt
     Text,
@@ -26,7 +26,7 @@ pub enum Form {
 }
 
 // The form that a word names, or none.
-#[derive(Drop)]
+#[derive(Clone, Copy)]
 pub enum Asked {
     Is(Form),
     Other,
@@ -49,7 +49,7 @@ pub fn form_named(name: &[u8]) -> Asked {
 }
 
 // What is told of a trace beside its actions.
-#[derive(Drop)]
+#[derive(Clone, Copy)]
 struct Told {
     covers: Covers,
     size: Size,

@@ -1,4 +1,6 @@
 // Replays the traces in the files that its arguments name, and prints what each answered, in one of four forms.
+#![tactic(auto)]
+
 mod print; // a replay as text, or as a table
 mod forms; // a trace in each form
 mod totals; // how many traces of each kind

@@ -5,7 +5,7 @@ ghost use Rattle.replay.specs.Totals.{status_of};
 use files::Status;
 use std::num::wrapping_add_u64;
 
-#[derive(Drop)]
+#[derive(Clone, Copy)]
 pub struct Totals {
     pub complete: u64,
     // read whole, and not complete

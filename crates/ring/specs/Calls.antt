@@ -3,7 +3,7 @@
 -- proofs/demand/Promises puts in what the checker proves of them.
 -- Assumes nothing.
 use Rattle.std.specs.Prelude.{◌≡◌, List, [], ◌∷◌, ◌++◌, ℕ, length, replicate}
-use Rattle.std.specs.Borrow.{Bor}
+use Rattle.std.specs.Borrow.{Bor, MutBor}
 use Rattle.rules.specs.Answers.{told}
 use Rattle.rules.specs.Replay.{over}
 use Rattle.rules.specs.Drain.{told_last, events_among, last_of}
@@ -26,15 +26,15 @@ pub record Promises : Type 1 where
   pub fresh : ℕ → ℕ → ℕ → Step → Type 0
   pub plain : Ring → Type 0
   -- N, S and mode, the bytes, the buffer lent, what came back, and what the buffer holds then
-  pub replay : ℕ → ℕ → ℕ → Bor (List ℕ) → Bor (List ℕ) → Replay → List ℕ → Type 0
+  pub replay : ℕ → ℕ → ℕ → Bor (List ℕ) → MutBor (List ℕ) → Replay → List ℕ → Type 0
   -- the ring, what was given beside it, and what came back
   pub begin : Ring → ℕ → Step → Type 0
   pub write : Ring → Step → Type 0
   pub read : Ring → Step → Type 0
   pub act : Ring → Action → Step → Type 0
   -- .. and what the buffer holds then
-  pub drain_into : Ring → Bor (List ℕ) → DrainCount → List ℕ → Type 0
-  pub drain : Ring → Bor (List ℕ) → DrainPart → Type 0
+  pub drain_into : Ring → MutBor (List ℕ) → DrainCount → List ℕ → Type 0
+  pub drain : Ring → MutBor (List ℕ) → DrainPart → Type 0
   pub receipt : Ring → Receipt → Type 0
 
 -- ---- single actions
@@ -68,8 +68,8 @@ pub data Call : Type 0 where
   read : Step → Call
   act : Action → Step → Call
   -- the buffer lent, what came back, and what the buffer holds then
-  drain_into : Bor (List ℕ) → DrainCount → List ℕ → Call
-  drain : Bor (List ℕ) → DrainPart → Call
+  drain_into : MutBor (List ℕ) → DrainCount → List ℕ → Call
+  drain : MutBor (List ℕ) → DrainPart → Call
 
 abbrev pub ring_back : Call → Ring
 ring_back (begin v s) = s.ring

@@ -5,7 +5,7 @@
 -- Drain).
 -- Assumes nothing.
 use Rattle.std.specs.Prelude.{◌≡◌, true, ◌≢◌, List, [], ◌∷◌, ◌++◌, ℕ, length}
-use Rattle.std.specs.Borrow.{Bor}
+use Rattle.std.specs.Borrow.{Bor, MutBor}
 use Rattle.rules.specs.Answers.{told}
 use Rattle.rules.specs.Shape.{in_shape}
 use Rattle.rules.specs.SetUp.{plain_ring}
@@ -99,7 +99,7 @@ module _ (p : Promises) where
   ForCalls Began here = (calls : List Call) → Follow p here calls → (c : Receipt) → p.receipt (last_back here calls) c → CallsClaim Began here calls c
 
   -- a run may begin with the actions of a replay: its answers, in the buffer, are theirs
-  pub record Replayed (pages slots mode : ℕ) (bytes buffer : Bor (List ℕ)) (r : Replay) (then : List ℕ) (first : Ring) (l : List Single) : Type 0 where
+  pub record Replayed (pages slots mode : ℕ) (bytes : Bor (List ℕ)) (buffer : MutBor (List ℕ)) (r : Replay) (then : List ℕ) (first : Ring) (l : List Single) : Type 0 where
     pub made : r.made ≡ length l
     pub answers : then ≡ over (laid (answered l)) buffer.now
     -- where it is not refused: all the actions of the bytes, on the ring of its set-up
@@ -113,7 +113,7 @@ module _ (p : Promises) where
     pub fresh : (pages slots mode : ℕ) (s : Step) → p.fresh pages slots mode s → ForCalls NoAction s.ring
     pub plain : (r : Ring) → p.plain r → ForCalls NoAction r
     pub replay :
-        (pages slots mode : ℕ) (bytes buffer : Bor (List ℕ)) (r : Replay) (then : List ℕ) →
+        (pages slots mode : ℕ) (bytes : Bor (List ℕ)) (buffer : MutBor (List ℕ)) (r : Replay) (then : List ℕ) →
         p.replay pages slots mode bytes buffer r then →
         ForCalls (Replayed pages slots mode bytes buffer r then) r.ring
 
@@ -123,11 +123,11 @@ module _ (p : Promises) where
     pub fresh : (pages slots mode : ℕ) → (s : Step) × p.fresh pages slots mode s
     pub plain : (r : Ring) × p.plain r
     pub replay :
-        (pages slots mode : ℕ) (bytes buffer : Bor (List ℕ)) → (r : Replay) × (then : List ℕ) × p.replay pages slots mode bytes buffer r then
+        (pages slots mode : ℕ) (bytes : Bor (List ℕ)) (buffer : MutBor (List ℕ)) → (r : Replay) × (then : List ℕ) × p.replay pages slots mode bytes buffer r then
     pub begin : (r : Ring) (v : ℕ) → (s : Step) × p.begin r v s
     pub write : (r : Ring) → (s : Step) × p.write r s
     pub read : (r : Ring) → (s : Step) × p.read r s
     pub act : (r : Ring) (a : Action) → (s : Step) × p.act r a s
-    pub drain_into : (r : Ring) (buffer : Bor (List ℕ)) → (d : DrainCount) × (then : List ℕ) × p.drain_into r buffer d then
-    pub drain : (r : Ring) (buffer : Bor (List ℕ)) → (d : DrainPart) × p.drain r buffer d
+    pub drain_into : (r : Ring) (buffer : MutBor (List ℕ)) → (d : DrainCount) × (then : List ℕ) × p.drain_into r buffer d then
+    pub drain : (r : Ring) (buffer : MutBor (List ℕ)) → (d : DrainPart) × p.drain r buffer d
     pub receipt : (r : Ring) → (c : Receipt) × p.receipt r c

@@ -19,7 +19,7 @@ use rules::moves::{Move, Verdict};
 use rules::state::{Action, Answer, Counts, Places, Reader, Size, Writer};
 
 // All that an action of any kind leaves: its answer, and each piece of the ring as it then is. A piece that stays is stored as it was.
-#[derive(Drop)]
+#[derive(Clone, Copy)]
 pub struct Change {
     pub answer: Numbers,
     // a place of the stack, and the record that it gets

@@ -1,6 +1,8 @@
 // A ring of readings for climate loggers, as a machine of single steps. Each action takes the ring by value and gives it back with an
 // answer; nothing is kept elsewhere. The rules are those of crate rules, and each function's contract is an equation with one of them, about the
 // state that its ring is (specs/Ring).
+#![tactic(auto)]
+
 pub mod state; // the ring, and what its calls give back
 pub mod codes; // answers as numbers
 pub mod cells; // what stands where in the arrays

@@ -12,7 +12,7 @@ use rules::state::{
 };
 
 // The cells of the arrays that an action stores to. A slot is named by its place in the arrays of slots.
-#[derive(Drop)]
+#[derive(Clone, Copy)]
 pub enum Stores {
     Same,
     // a slot and the number that it gets; its page and the page's used

@@ -2,14 +2,14 @@
 use crate::state::{Answer, PageNo, Refusal, WriterPhase};
 
 // Whether an action is made or refused.
-#[derive(Drop)]
+#[derive(Clone, Copy)]
 pub enum Verdict {
     Allowed,
     Refused(Refusal),
 }
 
 // The lowest page p other than the reader page whose word is HEADER, with the page h in that word.
-#[derive(Drop)]
+#[derive(Clone, Copy)]
 pub enum Search {
     // p, h
     At(PageNo, PageNo),
@@ -17,7 +17,7 @@ pub enum Search {
 }
 
 // What a Write does.
-#[derive(Drop)]
+#[derive(Clone, Copy)]
 pub enum Move {
     // only the record's phase changes
     Become(WriterPhase, Answer),
@@ -41,7 +41,7 @@ pub enum Move {
 }
 
 // What a Read does.
-#[derive(Drop)]
+#[derive(Clone, Copy)]
 pub enum Fetch {
     // the slot at the read position is handed out
     Event,

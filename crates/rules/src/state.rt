@@ -1,15 +1,15 @@
 // The parts of a ring, and what is asked and answered: types with no function, so that each is read in one place.
 
 // The number of a page, 0 to N. A type of its own, so that it is never taken for a reading's number.
-#[derive(Drop)]
+#[derive(Clone, Copy)]
 pub struct PageNo(pub u32);
 
 // The number of a reading: the first reading that gets a slot has number 0.
-#[derive(Drop)]
+#[derive(Clone, Copy)]
 pub struct ReadingNo(pub u32);
 
 // What a writer does next; t is the tail page that it saw, n the page after it.
-#[derive(Drop)]
+#[derive(Clone, Copy)]
 pub enum WriterPhase {
     Want,
     // t, n
@@ -26,14 +26,14 @@ pub enum WriterPhase {
 }
 
 // A writer's record.
-#[derive(Drop)]
+#[derive(Clone, Copy)]
 pub struct Writer {
     pub value: u32,
     pub phase: WriterPhase,
 }
 
 // What the reader does next; p is the page whose word was HEADER, h the page in that word.
-#[derive(Drop)]
+#[derive(Clone, Copy)]
 pub enum ReaderPhase {
     Idle,
     // p, h
@@ -43,13 +43,13 @@ pub enum ReaderPhase {
 }
 
 // The reader. A struct, since a field that is an enum cannot be stored to by itself.
-#[derive(Drop)]
+#[derive(Clone, Copy)]
 pub struct Reader {
     pub phase: ReaderPhase,
 }
 
 // The set-up: N ring pages (there is one page more, the reader page), S slots in each page, and the mode.
-#[derive(Drop)]
+#[derive(Clone, Copy)]
 pub struct Size {
     pub pages: u32,
     pub slots: u32,
@@ -57,7 +57,7 @@ pub struct Size {
 }
 
 // Where the ring stands: reader page, tail page, commit page with the commit index, and the read position on the reader page.
-#[derive(Drop)]
+#[derive(Clone, Copy)]
 pub struct Places {
     pub reader: PageNo,
     pub tail: PageNo,
@@ -67,7 +67,7 @@ pub struct Places {
 }
 
 // The counts. 64 bits wide, since a count that a step takes past 4,294,967,295 is kept as it is.
-#[derive(Drop)]
+#[derive(Clone, Copy)]
 pub struct Counts {
     pub begun: u64,
     pub taken: u64,
@@ -78,7 +78,7 @@ pub struct Counts {
 }
 
 // Why an action, a receipt, a set-up or a trace is refused.
-#[derive(Drop)]
+#[derive(Clone, Copy)]
 pub enum Refusal {
     Shape,
     Depth,
@@ -98,7 +98,7 @@ pub enum Refusal {
 }
 
 // What an action or a set-up answers.
-#[derive(Drop)]
+#[derive(Clone, Copy)]
 pub enum Answer {
     // a set-up that is not refused
     Accepted,
@@ -131,7 +131,7 @@ pub enum Answer {
 }
 
 // One action.
-#[derive(Drop)]
+#[derive(Clone, Copy)]
 pub enum Action {
     Begin(u32),
     Write,
@@ -139,7 +139,7 @@ pub enum Action {
 }
 
 // The receipt. `refusal` is the number of the refusal, 0 for a receipt that is not refused; a refused receipt is all zero and not complete.
-#[derive(Drop)]
+#[derive(Clone, Copy)]
 pub struct Receipt {
     pub refusal: u32,
     pub begun: u64,
@@ -153,7 +153,7 @@ pub struct Receipt {
 }
 
 // The last answer of a drain; none where no Read was made.
-#[derive(Drop)]
+#[derive(Clone, Copy)]
 pub enum Last {
     None,
     Given(Answer),

@@ -12,7 +12,7 @@ const MOST_LENGTH: u64 = 65536;
 const ACTION: u32 = 9;
 
 // What was read of a trace.
-#[derive(Drop)]
+#[derive(Clone, Copy)]
 pub struct Covers {
     // how many bytes it has; one more than a trace may have stands for any that is longer
     pub bytes: u64,

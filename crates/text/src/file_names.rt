@@ -16,14 +16,14 @@ const ESCAPED: usize = 4;
 const ASIDE: usize = 14;
 
 // Where a name is printed: the descriptor, and whether what does not fit goes on in a line of its own.
-#[derive(Drop)]
+#[derive(Clone, Copy)]
 pub(crate) struct Target {
     pub fd: i32,
     pub wraps: bool,
 }
 
 // A line that is being put together: the place after what was put, and whether all before it could be written.
-#[derive(Drop)]
+#[derive(Clone, Copy)]
 pub(crate) struct Placed {
     pub at: usize,
     pub good: bool,

@@ -1,5 +1,7 @@
 // The ring's answers, states and receipts as lines of text on standard output, and what is wrong with a file as a line on standard error. No
 // public function has a `requires`. One that prints answers whether it could.
+#![tactic(auto)]
+
 mod put; // a line, and what it is made of
 mod names; // answers by name
 mod file_names; // a file's name, escaped

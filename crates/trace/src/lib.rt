@@ -1,4 +1,6 @@
 // A trace: a recorded day as bytes. A mark, a version and a set-up, then actions one after the other.
+#![tactic(auto)]
+
 pub mod parts; // what a trace is made of
 pub mod header; // the header of a trace
 pub mod encode; // writing a trace

@@ -30,7 +30,7 @@ pub const VERSION: u32 = 1;
 pub const PLAIN_BYTE: u8 = 2;
 
 // What the header of a trace says.
-#[derive(Drop)]
+#[derive(Clone, Copy)]
 pub enum Header {
     // N, S and the mode that the ring gets
     Ready(u32, u32, u32),
@@ -38,7 +38,7 @@ pub enum Header {
 }
 
 // What putting something into a trace gives.
-#[derive(Drop)]
+#[derive(Clone, Copy)]
 pub enum Put {
     // the place after what was put
     At(usize),

@@ -6,7 +6,7 @@ use mathlib.Core.List.{List, []}
 use Prim.Native.Nat.{ℕ}
 use native.Mathlib.Omega.{arith}
 use lib.ListN.{length}
-use denote.Ref.{Bor}
+use denote.Ref.{Bor, MutBor}
 use Rattle.rules.specs.Limits.{plain_pages, plain_slots, plain_mode}
 use Rattle.rules.specs.State.{size_of, State}
 use Rattle.rules.specs.Answers.{Outcome}
@@ -85,7 +85,7 @@ module _ (pages slots mode : ℕ) (fits : size_fits (size_of pages slots mode) �
       let its : AcceptedRing promises fresh_of = record { pages = pages; slots = slots; mode = mode; set_up = set-up pages slots mode fits fresh_of refl } in
       calls-claim fresh_of its Began back made_of began (made-leads back e)
 
-module _ (pages slots mode : ℕ) (bytes buffer : Bor (List ℕ)) (r : Replay) (then : List ℕ) where
+module _ (pages slots mode : ℕ) (bytes : Bor (List ℕ)) (buffer : MutBor (List ℕ)) (r : Replay) (then : List ℕ) where
   abbrev Began : Ring → List Single → Type 0
   Began = Replayed promises pages slots mode bytes buffer r then
 

@@ -98,6 +98,7 @@ module _ (bytes : List ℕ) (at : ℕ) where
   stops : (c : Coded) → Stops c → go_on c (decoded_from bytes) at ≡ stopped at
   stops Broken _ = refl
   stops End _ = refl
+  stops (Whole _ _) s = elim s [ ]
 
   pub decoded-stops : {c : Coded} → coded_at bytes at ≡ c → Stops c → decoded_from bytes at ≡ stopped at
   decoded-stops {c} e s = one_more ∙ ap (λ (c : Coded). go_on c (decoded_from bytes) at) e ∙ stops c s
@@ -137,7 +138,9 @@ module _ (bytes : List ℕ) where
   stop-stops at = within-ends (length bytes - at) at (omega arith)
 
   is-broken : (c : Coded) → Stops c → Something c → c ≡ Broken
+  is-broken (Whole _ _) s h = elim s [ ]
   is-broken Broken s h = refl
+  is-broken End s h = elim h [ ]
 
   pub decodes : (at : ℕ) → Decodes bytes at
   decodes at =
