@@ -1,7 +1,7 @@
 -- A verdict is not both of its kinds. And what holds in an arm of a match on an enum that is for several variants, as `_ => ..`: there it is known by the
 -- numbers of these variants, and a fact of each of them is a fact of it.
 -- Assumes nothing.
-use mathlib.Core.Path.{◌≡◌}
+use mathlib.Core.Path.{◌≡◌, refl}
 use mathlib.Core.Logic.{inl, inr}
 use mathlib.Core.List.{List, [], ◌∷◌}
 use Prim.Native.Nat.{ℕ}
@@ -12,6 +12,7 @@ use denote.Enum.Declared.{tag_of}
 use Rattle.rules.specs.Actions.{Stops}
 use Rattle.rules.specs.declared.state.PageNo.{PageNo}
 use Rattle.rules.specs.declared.state.WriterPhase.{WriterPhase}
+use Rattle.rules.specs.declared.state.Action.{Action}
 use Rattle.rules.specs.declared.state.Answer.{Answer}
 use Rattle.rules.specs.declared.state.Refusal.{Refusal}
 use Rattle.rules.specs.declared.moves.Verdict.TheVariants.{Allowed, Refused}
@@ -137,3 +138,8 @@ stops-of-numbers (Whole a next) (inl o) = absurd (omega arith)
 stops-of-numbers (Whole a next) (inr o) = absurd (omega arith)
 stops-of-numbers Broken o = tt
 stops-of-numbers End o = tt
+
+pub stops-unless-whole : (c : Coded) → ((a : Action) (next : ℕ) → c ≡ Whole a next → ⊥) → Stops c
+stops-unless-whole (Whole a next) h = h a next refl
+stops-unless-whole Broken h = tt
+stops-unless-whole End h = tt

@@ -2,12 +2,9 @@
 -- Assumes nothing.
 use mathlib.Core.Path.{◌≡◌, refl}
 use mathlib.Core.Bool.{true}
-use mathlib.Core.Logic.{inl, inr}
 use mathlib.Core.List.{List, [], ◌∷◌}
 use Prim.Native.Nat.{ℕ, ◌-◌, ◌≤◌}
 use native.Mathlib.Omega.{arith}
-use types.Run.{OneOf}
-use denote.Enum.Declared.{tag_of}
 use borrow.Author.Tests.{ne_eqb}
 use lib.ListN.{set}
 use Rattle.rules.specs.Limits.{most_pages, most_slots}
@@ -31,7 +28,6 @@ use Rattle.rules.specs.declared.moves.Fetch.TheVariants as fetch
 use Rattle.ring.specs.declared.pieces.Stores.{Stores}
 use Rattle.ring.specs.declared.pieces.Stores.TheVariants as stores
 use Rattle.rules.proofs.state.Laws.{slot_index-room}
-use Rattle.ring.specs.contracts.pieces.Stores.{the_type}
 use Rattle.ring.proofs.write.Laws.{Allows}
 
 -- ---- Write
@@ -135,15 +131,15 @@ module _ (reader : PageNo) (words : List ℕ) where
   read-stores-precondition fetch.Miss h le = tt
 
   -- of the five kinds of stores a Read makes a word's or a taken page's, and otherwise none
-  pub read-stores-same : (f : Fetch) → OneOf (0 ∷ 1 ∷ 4 ∷ []) (tag_of the_type (read_stores f reader words)) → read_stores f reader words ≡ stores.Same
-  read-stores-same fetch.Event o = refl
-  read-stores-same fetch.Empty o = refl
-  read-stores-same fetch.Busy o = refl
-  read-stores-same (fetch.Find p q) o = refl
-  read-stores-same (fetch.Prepare p q) (inl o) = absurd (omega arith)
-  read-stores-same (fetch.Prepare p q) (inr (inl o)) = absurd (omega arith)
-  read-stores-same (fetch.Prepare p q) (inr (inr o)) = absurd (omega arith)
-  read-stores-same (fetch.Swap p q) (inl o) = absurd (omega arith)
-  read-stores-same (fetch.Swap p q) (inr (inl o)) = absurd (omega arith)
-  read-stores-same (fetch.Swap p q) (inr (inr o)) = absurd (omega arith)
-  read-stores-same fetch.Miss o = refl
+  pub read-stores-same :
+      (f : Fetch) →
+      ((p : PageNo) (w : ℕ) → read_stores f reader words ≡ stores.Word p w → ⊥) →
+      ((p : PageNo) (w : ℕ) (old : PageNo) → read_stores f reader words ≡ stores.Take p w old → ⊥) →
+      read_stores f reader words ≡ stores.Same
+  read-stores-same fetch.Event no-word no-take = refl
+  read-stores-same fetch.Empty no-word no-take = refl
+  read-stores-same fetch.Busy no-word no-take = refl
+  read-stores-same (fetch.Find p q) no-word no-take = refl
+  read-stores-same (fetch.Prepare p q) no-word no-take = absurd (no-word _ _ refl)
+  read-stores-same (fetch.Swap p q) no-word no-take = absurd (no-take _ _ _ refl)
+  read-stores-same fetch.Miss no-word no-take = refl

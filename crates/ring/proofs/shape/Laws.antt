@@ -2,16 +2,22 @@
 -- Assumes nothing.
 use mathlib.Core.Path.{◌≡◌}
 use mathlib.Core.Bool.{Bool, true, ◌&&◌, and-true}
+use mathlib.Core.List.{[], ◌∷◌}
 use Prim.Native.Nat.{ℕ}
 use native.Mathlib.Omega.{arith}
 use borrow.Author.Tests.{le-leb}
 use mir.Syntax.{w32}
-use mir.Val.{Fits}
+use mir.Val.{Val, Fits}
+use borrow.Author.Rules.{rules}
+use denote.Laws.{Is}
 use lib.ListN.{get_or}
 use Rattle.rules.specs.Limits.{most_count}
 use Rattle.rules.specs.State.{State}
 use Rattle.rules.specs.Shape.{counts_fit, layout_fits, number_fits, numbers_fit, in_shape}
 use Rattle.rules.proofs.Lists.{all_get_d}
+use Rattle.ring.specs.Ring.{state_of}
+use Rattle.ring.specs.declared.state.Ring.{Ring}
+use Rattle.ring.specs.contracts.state.Ring.{the_row}
 
 module _ (r : State) where
   -- numbers that are 32 bits wide meet their limit
@@ -28,3 +34,17 @@ module _ (r : State) where
       counts && layout ≡ in_shape r
   unfolding in_shape
   tested-in_shape c l h = rw (numbers-fit h, and-true, c, l)
+
+-- the slots' numbers of a ring that a function is handed are 32 bits wide
+narrow : (r : Ring) (w : Val) → Is the_row r (w ∷ []) → (i : ℕ) → Fits w32 (get_or r.numbers i 0)
+narrow r w p i = search rules
+
+-- so of such a ring what the code tests is in shape
+pub fitting :
+    (r : Ring) (w : Val) →
+    Is the_row r (w ∷ []) →
+    {counts layout : Bool} →
+    counts ≡ counts_fit r.counts →
+    layout ≡ layout_fits r.size r.places r.reader r.stack r.depth r.words r.used →
+    counts && layout ≡ in_shape (state_of r)
+fitting r w p c l = tested-in_shape (state_of r) c l (narrow r w p)
