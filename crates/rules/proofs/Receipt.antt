@@ -1,6 +1,6 @@
 -- Every receipt adds up, whatever the state: of one in shape by the inequalities of its counts, of any other because all is 0.
 -- Assumes nothing.
-use mathlib.Core.Path.{◌≡◌, refl}
+use mathlib.Core.Path.{refl}
 use Prim.Native.Nat.{◌+◌, ◌≤◌}
 use native.Mathlib.Omega.{arith}
 use borrow.Author.Tests.{eqb-true, eq-eqb}

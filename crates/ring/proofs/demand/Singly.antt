@@ -6,13 +6,12 @@ use mathlib.Core.List.{List, [], ◌∷◌, ◌++◌}
 use Prim.Native.Nat.{ℕ}
 use lib.ListN.{length, replicate}
 use Rattle.rules.specs.State.{State}
-use Rattle.rules.specs.Replay.{state_after, answers_of, over}
+use Rattle.rules.specs.Replay.{over}
 use Rattle.rules.specs.Drain.{drain_rule, events_among, last_of, Singly}
 use Rattle.ring.specs.Ring.{state_of}
-use Rattle.ring.specs.Calls.{Single, single, answered, last_ring, Call, begin, write, read, act, drain_into, drain, ring_back, last_back, ReadsTold, events_told, Tells, Gives, Follow, FollowSingly, Leads, CallFirst, Singles}
+use Rattle.ring.specs.Calls.{Single, single, Call, begin, write, read, act, drain_into, drain, ring_back, last_back, ReadsTold, events_told, Tells, Gives, Follow, Leads, Singles}
 use Rattle.rules.specs.declared.state.Action.{Action}
 use Rattle.rules.specs.declared.state.Action.TheVariants as action
-use Rattle.rules.specs.declared.state.Answer.{Answer}
 use Rattle.rules.specs.declared.state.Last.{Last}
 use Rattle.rules.specs.declared.state.Last.TheVariants.{None}
 use Rattle.ring.specs.declared.state.Ring.{Ring}

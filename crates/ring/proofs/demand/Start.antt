@@ -1,14 +1,14 @@
 -- How a run of calls may begin: with a set-up, refused or not, since the plain ring is that of an accepted set-up too; with the plain ring; with a
 -- replay, which is single actions on the ring of its set-up, or is refused and gives the plain ring. Assumes nothing.
 use mathlib.Core.Path.{◌≡◌, refl, sym, ap, ◌∙◌, subst}
-use mathlib.Core.Bool.{true, false}
+use mathlib.Core.Bool.{true}
 use mathlib.Core.List.{List, []}
 use Prim.Native.Nat.{ℕ}
 use native.Mathlib.Omega.{arith}
 use lib.ListN.{length}
 use denote.Ref.{Bor, MutBor}
 use Rattle.rules.specs.Limits.{plain_pages, plain_slots, plain_mode}
-use Rattle.rules.specs.State.{size_of, State}
+use Rattle.rules.specs.State.{size_of}
 use Rattle.rules.specs.Answers.{Outcome}
 use Rattle.rules.specs.Shape.{size_fits}
 use Rattle.rules.specs.SetUp.{fresh_ring, plain_ring, fresh_rule}

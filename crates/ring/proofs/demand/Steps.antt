@@ -15,7 +15,7 @@ use Rattle.rules.specs.Write.{plan_write, moved}
 use Rattle.rules.specs.Read.{plan_read, fetched}
 use Rattle.rules.specs.Act.{act}
 use Rattle.rules.specs.Replay.{state_after, answers_of}
-use Rattle.ring.specs.Ring.{state_of, outcome}
+use Rattle.ring.specs.Ring.{outcome}
 use Rattle.ring.specs.Calls.{Single, single, asked, answered, last_ring, FollowSingly, Leads}
 use Rattle.rules.specs.declared.state.Action.{Action}
 use Rattle.rules.specs.declared.state.Action.TheVariants.{Begin, Write, Read}

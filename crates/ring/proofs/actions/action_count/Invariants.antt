@@ -7,7 +7,7 @@ use Rattle.ring.proofs.actions.action_count.Given as goal
 abbrev pub invariant-loop-action : goal.invariant-loop-action
 invariant-loop-action l = record {
   all : length (decoded_from l.bytes l.from).actions ≡ l.count + length (decoded_from l.bytes l.at).actions;
-  bytes_enough : l.count + l.from ≤ l.at
+  bytes_enough : l.count + l.from ≤ l.at;
 }
 
 abbrev pub decreases-loop-action : goal.decreases-loop-action

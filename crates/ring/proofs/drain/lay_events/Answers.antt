@@ -1,5 +1,5 @@
 -- One more reading is laid.
-use Rattle.std.proofs.Common.{◌≡◌, suc, arith, sym, add-one}
+use Rattle.std.proofs.Common.{arith, sym, add-one}
 use Rattle.rules.specs.Lists.{tabulate}
 use Rattle.ring.specs.Turn.{stored_event}
 use Rattle.rules.proofs.Lists.{length-tabulate}

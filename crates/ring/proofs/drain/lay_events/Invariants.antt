@@ -7,7 +7,7 @@ use Rattle.ring.proofs.drain.lay_events.Given as goal
 abbrev pub invariant-loop-i : goal.invariant-loop-i
 invariant-loop-i l = record {
   within : l.i ≤ l.count;
-  laid : l.buffer ≡ sets l.initial.buffer l.at (events_from l.numbers l.values l.from l.i)
+  laid : l.buffer ≡ sets l.initial.buffer l.at (events_from l.numbers l.values l.from l.i);
 }
 
 abbrev pub decreases-loop-i : goal.decreases-loop-i

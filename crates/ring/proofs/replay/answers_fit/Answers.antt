@@ -1,5 +1,5 @@
 -- Where the buffer has a place for each byte, it has room for the answer of each action: there are not more actions than bytes. Else they are counted.
-use Rattle.std.proofs.Common.{◌≡◌, ℕ, ◌*◌, ◌/◌, leb, length, arith, ap, sym, ◌∙◌}
+use Rattle.std.proofs.Common.{◌≡◌, ℕ, ◌*◌, ◌/◌, leb, length, arith, sym, ◌∙◌}
 use borrow.Author.Tests.{leb-true, leb-false, le-leb, lt-leb}
 use Rattle.rules.specs.Actions.{decoded}
 use Rattle.rules.specs.Replay.{numbers_per_answer}

@@ -1,5 +1,5 @@
 -- The definition tests the size first, as the code does.
-use Rattle.std.proofs.Common.{sym, ◌∙◌}
+use Rattle.std.proofs.Common.{sym}
 use Rattle.rules.specs.Shape.{layout_fits}
 use Rattle.ring.proofs.shape.layout_fits.Goals as goal
 

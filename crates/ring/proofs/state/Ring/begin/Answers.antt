@@ -1,6 +1,6 @@
 -- `Ring::begin` is the rule. The verdict is that of the definition, since the code tests all of the shape but the slots' numbers, and those are
 -- 32 bits wide. Where it is Allowed, depth is below 4 and begun below its limit, so the sums fit. Assumes nothing.
-use Rattle.std.proofs.Common.{◌≡◌, Bool, rules, arith, sym}
+use Rattle.std.proofs.Common.{◌≡◌, Bool, arith, sym}
 use Rattle.rules.specs.State.{State}
 use Rattle.rules.specs.Shape.{in_shape}
 use Rattle.rules.specs.Refusals.{begin_verdict}

@@ -1,7 +1,6 @@
 -- `Ring::drain_into` is the rule: the Reads of a ring in shape, and the refusal out of it. The code tests all of the shape but the slots'
 -- numbers, and those are 32 bits wide. Assumes nothing.
-use Rattle.std.proofs.Common.{rules, refl, sym, ◌∙◌}
-use Rattle.ring.specs.Ring.{state_of}
+use Rattle.std.proofs.Common.{refl, sym, ◌∙◌}
 use Rattle.ring.proofs.shape.Laws.{fitting}
 use Rattle.ring.proofs.state.Ring.drain_into.Goals as goal
 

@@ -1,6 +1,6 @@
 -- A turn: what the loop's test tells of its ring, that its pieces fit, and that with its stores it is the Reads that the definition makes.
 -- Assumes nothing.
-use Rattle.std.proofs.Common.{◌≡◌, refl, true, ℕ, Bool, ◌&&◌, ◌+◌, ◌-◌, ◌≤◌, ◌<◌, leb, length, List, arith, rules, sym, ◌∙◌, subst}
+use Rattle.std.proofs.Common.{◌≡◌, refl, true, ℕ, Bool, ◌&&◌, ◌+◌, ◌-◌, ◌≤◌, ◌<◌, leb, length, List, arith, sym, ◌∙◌, subst}
 use borrow.Author.Tests.{ltb-true, leb-true}
 use lib.Dec.{ltb}
 use Rattle.rules.specs.Limits.{slot_room}
@@ -9,7 +9,7 @@ use Rattle.rules.specs.State.{State}
 use Rattle.rules.specs.declared.state.Last.{Last}
 use Rattle.ring.specs.Ring.{state_of}
 use Rattle.ring.specs.Pieces.{StoresPrecondition}
-use Rattle.ring.specs.Turn.{turn_of, TurnPrecondition}
+use Rattle.ring.specs.Turn.{turn_of}
 use Rattle.ring.specs.declared.turn.Turn.{Turn}
 use Rattle.rules.proofs.Lists.{and-three}
 use Rattle.rules.proofs.shape.Laws.{in-shape}

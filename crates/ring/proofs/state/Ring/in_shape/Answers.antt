@@ -1,6 +1,4 @@
 -- `Ring::in_shape` is the definition: `counts_fit` and `layout_fits` test all but the slots' numbers, and those are 32 bits wide. Assumes nothing.
-use Rattle.std.proofs.Common.{rules}
-use Rattle.ring.specs.Ring.{state_of}
 use Rattle.ring.proofs.shape.Laws.{fitting}
 use Rattle.ring.proofs.state.Ring.in_shape.Goals as goal
 

@@ -1,14 +1,12 @@
 -- `Ring::read` is the rule. The verdict is that of the definition, since the code tests all of the shape but the slots' numbers, and those are 32 bits
 -- wide. Where it is Allowed, what is done is the rule's, each piece is what it leaves of it, and the cells that are stored to are within the arrays; so
 -- each arm of the match returns the rule's outcome. Assumes nothing.
-use Rattle.std.proofs.Common.{◌≡◌, ◌≤◌, Bool, true, rules, arith, sym, ◌∙◌}
-use Rattle.rules.specs.Limits.{most_pages}
+use Rattle.std.proofs.Common.{◌≡◌, Bool, true, arith, sym, ◌∙◌}
 use Rattle.rules.specs.State.{State}
 use Rattle.rules.specs.Shape.{in_shape}
 use Rattle.rules.specs.Refusals.{read_verdict}
-use Rattle.rules.specs.Read.{plan_read, read_rule}
+use Rattle.rules.specs.Read.{plan_read}
 use Rattle.rules.specs.declared.moves.Verdict.TheVariants.{Allowed}
-use Rattle.rules.specs.declared.moves.Fetch.{Fetch}
 use Rattle.ring.specs.Ring.{state_of}
 use Rattle.ring.specs.Pieces.{read_stores, StoresPrecondition, FetchPrecondition}
 use Rattle.ring.specs.declared.pieces.Stores.{Stores}

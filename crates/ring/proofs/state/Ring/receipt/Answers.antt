@@ -1,7 +1,6 @@
 -- `Ring::receipt` is the rule: that of the counts in shape, and the refused one out of it. The code tests all of the shape but the slots' numbers, and those
 -- are 32 bits wide. Assumes nothing.
-use Rattle.std.proofs.Common.{rules, sym, ◌∙◌}
-use Rattle.ring.specs.Ring.{state_of}
+use Rattle.std.proofs.Common.{sym, ◌∙◌}
 use Rattle.ring.proofs.shape.Laws.{fitting}
 use Rattle.ring.proofs.state.Ring.receipt.Goals as goal
 

@@ -1,6 +1,6 @@
 -- A turn: its ring is in shape, so that what `change_by` answers is the action's change and fits; there is room for the answer; and with the change's
 -- stores and the answer laid it is the action. Assumes nothing.
-use Rattle.std.proofs.Common.{◌≡◌, ℕ, ◌+◌, ◌*◌, ◌^◌, ◌≤◌, ◌<◌, length, List, arith, rules, ap, sym, ◌∙◌}
+use Rattle.std.proofs.Common.{◌≡◌, ℕ, ◌+◌, ◌*◌, ◌≤◌, ◌<◌, length, List, arith, ap, sym, ◌∙◌}
 use Rattle.rules.specs.Limits.{most_depth}
 use Rattle.rules.specs.Actions.{decoded, coded_at}
 use Rattle.rules.specs.Replay.{numbers_per_answer, Reached}
@@ -12,11 +12,11 @@ use Rattle.ring.specs.Replay.{laid_at}
 use Rattle.ring.specs.Pieces.{StoresPrecondition}
 use Rattle.ring.specs.Change.{change_of, changed}
 use Rattle.ring.specs.declared.change.Change.{Change}
-use Rattle.rules.proofs.actions.Laws.{whole-moves, decoded-stops}
+use Rattle.rules.proofs.actions.Laws.{decoded-stops}
 use Rattle.rules.proofs.shape.Laws.{InShape, in-shape}
 use Rattle.ring.proofs.moves.Laws.{stops-unless-whole}
 use Rattle.ring.proofs.change.Laws.{change-precondition, change-top, change-stores}
-use Rattle.ring.proofs.replay.Laws.{Progress, start, shaped, one_left, buffer-length, turn, finish}
+use Rattle.ring.proofs.replay.Laws.{Progress, shaped, one_left, buffer-length, turn, finish}
 use Rattle.ring.proofs.state.Ring.run.Goals as goal
 
 module _ {r0 : State} {bytes buffer0 : List ℕ} {r : State} {buffer : List ℕ} {at made : ℕ} (p : Progress r0 bytes buffer0 r buffer at made) where

@@ -1,7 +1,7 @@
 -- `Ring::write` is the rule. The verdict is that of the definition, since the code tests all of the shape but the slots' numbers, and those are 32 bits
 -- wide. Where it is Allowed, the move is the rule's, each piece is what the move leaves of it, and the cells that are stored to are within the arrays; so
 -- each arm of the match returns the rule's outcome. Assumes nothing.
-use Rattle.std.proofs.Common.{◌≡◌, Bool, rules, arith, sym}
+use Rattle.std.proofs.Common.{◌≡◌, Bool, arith, sym}
 use Rattle.rules.specs.State.{top, State}
 use Rattle.rules.specs.Shape.{in_shape}
 use Rattle.rules.specs.Refusals.{write_verdict}

@@ -1,2 +1,0 @@
--- What the proof of `drain` stands on.
-pub mod Again
