@@ -14,7 +14,7 @@ use prog.Routine.{Routine}
 use types.Logic.{Logic}
 use contract.Lifetimes.{Lfts}
 use contract.Monad.{Fun, fact}
-use denote.Ref.{MutBor, at_last}
+use denote.Ref.{Bor, MutBor, at_last}
 use denote.Triple.Clauses.{AtExit}
 use Rattle.rules.specs.State.{size_of}
 use Rattle.rules.specs.SetUp.{fresh_ring}
@@ -45,7 +45,7 @@ use Rattle.trace.proofs.reader.replay.Reads as replay
 use Rattle.trace.specs.contracts.reader.TraceReader.replay as method
 
 -- what callers learn of `trace::replay`; a lifetime plays no part in it
-abbrev pub ReplayGives : MutBor (List ℕ) → MutBor (List ℕ) → Replay → List ℕ → Type 0
+abbrev pub ReplayGives : Bor (List ℕ) → MutBor (List ℕ) → Replay → List ℕ → Type 0
 ReplayGives bytes buffer r then = replay.Learnt ([], ([], tt)) (bytes, (buffer, tt)) r (bytes, (at_last buffer then, tt))
 
 -- what a replay gives that begins at a place

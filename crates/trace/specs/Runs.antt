@@ -4,7 +4,7 @@
 -- What the functions may return are parameters here: proofs/Runs puts in what the checker proves of them.
 -- Assumes nothing.
 use Rattle.std.specs.Prelude.{◌≡◌, ◌≢◌, List, [], ℕ, length}
-use Rattle.std.specs.Borrow.{Bor}
+use Rattle.std.specs.Borrow.{Bor, MutBor}
 use Rattle.rules.specs.Replay.{laid, over}
 use Rattle.ring.specs.Calls.{Promises, Single, asked, answered}
 use Rattle.ring.specs.Code.{SetUp, ForCalls}
@@ -30,12 +30,12 @@ pub record TraceReplayed (p : Promises) (bytes : List ℕ) (at : ℕ) (buffer : 
   pub unplaced : r.answer ≡ answer.Refused Room → l ≡ []
 
 -- whatever the bytes are, and whichever calls follow: `trace::replay` begins at the first action, a reader's replay at the reader's place
-pub record TraceDemand3 (p : Promises) (ReplayGives : Bor (List ℕ) → Bor (List ℕ) → Replay → List ℕ → Type 0) (ReaderGives : TraceReader → Bor (List ℕ) → Replay → List ℕ → Type 0) : Type 0 where
+pub record TraceDemand3 (p : Promises) (ReplayGives : Bor (List ℕ) → MutBor (List ℕ) → Replay → List ℕ → Type 0) (ReaderGives : TraceReader → MutBor (List ℕ) → Replay → List ℕ → Type 0) : Type 0 where
   pub replay :
-      (bytes buffer : Bor (List ℕ)) (r : Replay) (then : List ℕ) →
+      (bytes : Bor (List ℕ)) (buffer : MutBor (List ℕ)) (r : Replay) (then : List ℕ) →
       ReplayGives bytes buffer r then →
       ForCalls p (TraceReplayed p bytes.now first_action buffer.now r then) r.ring
   pub reader :
-      (t : TraceReader) (buffer : Bor (List ℕ)) (r : Replay) (then : List ℕ) →
+      (t : TraceReader) (buffer : MutBor (List ℕ)) (r : Replay) (then : List ℕ) →
       ReaderGives t buffer r then →
       ForCalls p (TraceReplayed p t.bytes.now t.at buffer.now r then) r.ring

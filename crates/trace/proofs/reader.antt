@@ -1,2 +1,0 @@
--- What the proofs of the reader's functions share.
-pub mod Held
