@@ -1,0 +1,15 @@
+-- A turn is the action that the definition chooses.
+use Rattle.std.proofs.Common.{arith, ap, ◌∙◌}
+use Rattle.rules.specs.Act.{act}
+use Rattle.ring.specs.Ring.{state_of}
+use Rattle.bench.specs.Loop.{looped}
+use Rattle.bench.proofs.Loop.{looped-next}
+use Rattle.bench.proofs.bench_by_act.Goals as goal
+
+pub loop-i-init : goal.loop-i-init
+unfolding looped
+loop-i-init c = (omega arith, c.fresh-s.ensures)
+
+pub loop-i-preserved : goal.loop-i-preserved
+loop-i-preserved c =
+    (omega arith, looped-next c.loop-i.i c.loop-i.invariant.1 (c.act-s.ensures ∙ ap (act (state_of c.loop-i.s.ring)) c.next_action-action.ensures))

@@ -1,0 +1,9 @@
+-- `bench_drain` drains the ring that the trace leaves: each further drain gives what the first gave, and leaves the buffer as it is. Assumes nothing.
+use Rattle.std.proofs.Common.{◌≡◌, ◌-◌}
+use Rattle.bench.proofs.bench_drain.Given as goal
+
+abbrev pub invariant-loop-i : goal.invariant-loop-i
+invariant-loop-i l = (l.buffer ≡ l.initial.buffer) × (l.made ≡ l.initial.made)
+
+abbrev pub decreases-loop-i : goal.decreases-loop-i
+decreases-loop-i l = l.turns - l.i
