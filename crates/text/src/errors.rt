@@ -1,14 +1,13 @@
 // What goes wrong with a file, as lines on standard error. Each begins with the command's name.
 use crate::covers::{Covers, trace_refusal};
 use crate::file_names::{Target, put_name};
-use crate::put::{Line, ROOM, end_line_to, number, word, write_part};
-use libc::STDERR_FILENO;
+use crate::put::{Line, ROOM, STDERR, end_line_to, number, word, write_part};
 
 // The start of a line about a file; the place after it.
 fn start(line: &mut Line, name: &[u8]) -> usize {
     let at = word(line, 0, b"ring: ");
     let target = Target {
-        fd: STDERR_FILENO,
+        fd: STDERR,
         wraps: false,
     };
     let placed = put_name(line, at, name, target);
@@ -19,7 +18,7 @@ fn start(line: &mut Line, name: &[u8]) -> usize {
 pub fn error_name(name: &[u8]) {
     let mut line = [0u8; ROOM];
     let at = start(&mut line, name);
-    write_part(STDERR_FILENO, &line, at);
+    write_part(STDERR, &line, at);
 }
 
 // A refused trace.
@@ -28,7 +27,7 @@ pub fn error_refusal(name: &[u8], covers: Covers) {
     let mut at = start(&mut line, name);
     at = word(&mut line, at, b": ");
     at = trace_refusal(&mut line, at, covers);
-    end_line_to(STDERR_FILENO, &mut line, at);
+    end_line_to(STDERR, &mut line, at);
 }
 
 // What is wrong with a file as a whole.
@@ -37,7 +36,7 @@ pub fn error_line(name: &[u8], reason: &[u8]) {
     let mut at = start(&mut line, name);
     at = word(&mut line, at, b": ");
     at = word(&mut line, at, reason);
-    end_line_to(STDERR_FILENO, &mut line, at);
+    end_line_to(STDERR, &mut line, at);
 }
 
 // What is wrong with a line of a file, by the line's number.
@@ -48,5 +47,5 @@ pub fn error_at_line(name: &[u8], n: u64, reason: &[u8]) {
     at = number(&mut line, at, n);
     at = word(&mut line, at, b": ");
     at = word(&mut line, at, reason);
-    end_line_to(STDERR_FILENO, &mut line, at);
+    end_line_to(STDERR, &mut line, at);
 }

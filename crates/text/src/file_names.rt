@@ -3,8 +3,7 @@
 ghost use Rattle.std.specs.Prelude.{◌≡◌, ◌<◌, length};
 ghost use Rattle.text.specs.FileNames.{is_input};
 
-use crate::put::{Line, ROOM, byte, end_line, end_line_to, fill, hex, word, write_part};
-use libc::STDOUT_FILENO;
+use crate::put::{Line, ROOM, STDOUT, byte, end_line, end_line_to, fill, hex, word, write_part};
 
 // The most bytes of a line that has a name.
 const WIDTH: usize = 100;
@@ -221,10 +220,7 @@ pub(crate) fn put_name(line: &mut Line, from: usize, name: &[u8], target: Target
 pub(crate) fn name_line(before: &[u8], name: &[u8], wraps: bool) -> bool {
     let mut line = [0u8; ROOM];
     let at = word(&mut line, 0, before);
-    let target = Target {
-        fd: STDOUT_FILENO,
-        wraps,
-    };
+    let target = Target { fd: STDOUT, wraps };
     let placed = put_name(&mut line, at, name, target);
     end_line(&mut line, placed.at) & placed.good
 }

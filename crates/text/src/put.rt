@@ -3,7 +3,10 @@
 // longest line here, that of 17 words of ten digits, has 222 bytes. Whoever writes answers whether all of it was written.
 ghost use Rattle.std.specs.Prelude.{◌<◌};
 
-use libc::STDOUT_FILENO;
+// The descriptors that every program has: its text, and what is wrong.
+pub(crate) const STDOUT: i32 = 1;
+
+pub(crate) const STDERR: i32 = 2;
 
 // How many bytes a line has room for, its newline among them.
 pub(crate) const ROOM: usize = 256;
@@ -115,11 +118,11 @@ pub(crate) fn end_line_to(fd: i32, line: &mut Line, at: usize) -> bool {
 
 // The newline, and the line written.
 pub(crate) fn end_line(line: &mut Line, at: usize) -> bool {
-    end_line_to(STDOUT_FILENO, line, at)
+    end_line_to(STDOUT, line, at)
 }
 
 // A line of a text that may be longer than the buffer: it is written as it stands.
 pub(crate) fn whole_line(text: &[u8]) -> bool {
-    let good = io::write_all(STDOUT_FILENO, text);
-    io::write_all(STDOUT_FILENO, b"\n") & good
+    let good = io::write_all(STDOUT, text);
+    io::write_all(STDOUT, b"\n") & good
 }
