@@ -1,7 +1,13 @@
 // The bytes of a file, or of standard input.
+ghost use Rattle.std.specs.Prelude.{IfOk};
 ghost use Rattle.io.specs.Counts.{IsPrefixLen};
 
-use libc::STDIN_FILENO;
+use crate::links::open_link;
+use crate::reasons::complain;
+use std::fs;
+use std::fs::Files;
+use std::io::{Error, Input, Read};
+use std::str::from_utf8;
 
 // What was read of a file.
 #[derive(Clone, Copy)]
@@ -12,68 +18,58 @@ pub struct Loaded {
     pub count: usize,
 }
 
-// Reads until the buffer is full or the file ends. io::read_full does the same, and does not tell an end from a read that failed.
-fn read_all(fd: i32, bytes: &mut [u8]) -> Loaded
-    ensures { IsPrefixLen result.count bytes.new }
+// Reads until the buffer is full or the file ends, and says how many bytes came.
+fn read_all<F: Read>(file: &mut F, bytes: &mut [u8]) -> Result<usize, Error>
+    ensures { IfOk result (λ n. IsPrefixLen n bytes.new) }
 {
     let mut done: usize = 0;
     while done < bytes.len() {
-        let got = libc::read(fd, &mut bytes[done..]);
-        if got < 0 {
-            return Loaded {
-                good: false,
-                count: 0,
-            };
-        }
-        let n = io::count(got, &bytes[done..]);
+        let n = file.read(&mut bytes[done..])?;
         if n == 0 {
-            return Loaded {
-                good: true,
-                count: done,
-            };
+            return Ok(done);
         }
         done = done + n;
     }
-    Loaded {
-        good: true,
-        count: done,
+    Ok(done)
+}
+
+// Opens the file that an argument names. A path is UTF-8 here; where the name is not, the command lends a link to its file.
+fn open_named<R: Files>(rt: &R, argument: usize, name: &[u8]) -> Result<R::File, Error> {
+    match from_utf8(name) {
+        Ok(path) => fs::open(rt, path),
+        Err(_) => open_link(rt, argument),
     }
 }
 
-// The line on standard error about a file that cannot be read, with the reason that the system gave last.
-fn complain(name: &[u8]) {
-    text::error_name(name);
-    os::fail(b"");
-}
-
-// The same of an open file.
-fn read_open(fd: i32, name: &[u8], bytes: &mut [u8]) -> Loaded
-    ensures { IsPrefixLen result.count bytes.new }
-{
-    let loaded = read_all(fd, bytes);
-    if !loaded.good {
-        complain(name);
-    }
-    loaded
-}
-
-// As much of a file as the buffer has room for; the name - is standard input. Where it cannot be read, a line on standard error says why, and no byte is
-// counted.
-pub fn read_file(name: &[u8], bytes: &mut [u8]) -> Loaded
-    ensures { IsPrefixLen result.count bytes.new }
+fn read_named<R: Files + Input>(
+    rt: &R,
+    argument: usize,
+    name: &[u8],
+    bytes: &mut [u8],
+) -> Result<usize, Error>
+    ensures { IfOk result (λ n. IsPrefixLen n bytes.new) }
 {
     if text::is_input(name) {
-        return read_open(STDIN_FILENO, name, bytes);
+        let mut input = rt.reader();
+        return read_all(&mut input, bytes);
     }
-    let fd = os::open_read(name);
-    if fd < 0 {
-        complain(name);
-        return Loaded {
-            good: false,
-            count: 0,
-        };
+    let mut file = open_named(rt, argument, name)?;
+    read_all(&mut file, bytes)
+}
+
+// As much of a file as the buffer has room for, where its name is the argument of this number; the name - is standard input. Where it cannot be read, a
+// line on standard error says why, and no byte is counted.
+pub fn read_file<R: Files + Input>(rt: &R, argument: usize, name: &[u8], bytes: &mut [u8]) -> Loaded
+    ensures { IsPrefixLen result.count bytes.new }
+{
+    match read_named(rt, argument, name, bytes) {
+        Ok(count) => Loaded { good: true, count },
+        Err(error) => {
+            complain(name, error);
+            Loaded {
+                good: false,
+                count: 0,
+            }
+        }
     }
-    let loaded = read_open(fd, name, bytes);
-    libc::close(fd);
-    loaded
 }
