@@ -7,9 +7,15 @@ mod write; // the lines of a text, put into a trace
 ghost use Rattle.std.specs.Prelude.{◌≡◌, length};
 
 use files::Status;
-use libc::{STDERR_FILENO, STDOUT_FILENO};
+use std::env::Env;
+use std::fs::Files;
+use std::io::Input;
 use trace::parts::MOST_LENGTH;
 use write::{Why, Written, write_text};
+
+const STDOUT: i32 = 1;
+
+const STDERR: i32 = 2;
 
 // How many bytes of a text are read: one more than a text may have, so that a longer one is seen as such.
 const BYTES: usize = MOST_TEXT + 1;
@@ -61,7 +67,7 @@ fn write_out(out: &[u8], end: usize) -> Status {
     if out.len() < end {
         return Status::Refused;
     }
-    if io::write_all(STDOUT_FILENO, &out[0..end]) {
+    if io::write_all(STDOUT, &out[0..end]) {
         Status::Whole
     } else {
         Status::NotWritten
@@ -74,9 +80,9 @@ fn text_buffer() -> [u8; BYTES]
     [0u8; BYTES]
 }
 
-fn encode_file(name: &[u8]) -> Status {
+fn encode_file<R: Files + Input>(rt: &R, name: &[u8]) -> Status {
     let mut bytes = text_buffer();
-    let loaded = files::read_file(name, &mut bytes);
+    let loaded = files::read_file(rt, 1, name, &mut bytes);
     if !loaded.good {
         return Status::Refused;
     }
@@ -84,20 +90,20 @@ fn encode_file(name: &[u8]) -> Status {
     encode_text(name, &bytes[..n])
 }
 
-fn encode_argument() -> Status {
+fn encode_argument<R: Env + Files + Input>(rt: &R) -> Status {
     let mut name = files::name_buffer();
-    let n = os::arg(1, &mut name);
-    encode_file(&name[..n])
+    let n = files::argument(rt, 1, &mut name);
+    encode_file(rt, &name[..n])
 }
 
-fn run() -> Status {
-    if os::arg_count() == 2 {
-        return encode_argument();
+fn run<R: Env + Files + Input>(rt: &R) -> Status {
+    if files::argument_count(rt) == 2 {
+        return encode_argument(rt);
     }
-    io::write_all(STDERR_FILENO, b"ring: encode FILE\n");
+    io::write_all(STDERR, b"ring: encode FILE\n");
     Status::WrongUse
 }
 
-fn main() {
-    files::tell(run());
+fn main(rt: HostRuntime) {
+    files::tell(run(&rt));
 }

@@ -4,6 +4,8 @@ use crate::totals::{Totals, one_trace, one_unreadable, only_written};
 use ring::replay::NUMBERS_PER_ANSWER;
 use ring::{Answer, Receipt};
 use rules::state::Size;
+use std::fs::Files;
+use std::io::Input;
 use text::Covers;
 use trace::parts::{FIRST_ACTION, MOST_LENGTH};
 
@@ -160,9 +162,16 @@ pub fn show_break(first: bool) -> Totals {
     only_written(text::section_break())
 }
 
-// A file.
-pub fn show_file(form: Form, name: &[u8], bytes: &mut [u8], answers: &mut [u64]) -> Totals {
-    let loaded = files::read_file(name, bytes);
+// The file that argument i names.
+pub fn show_file<R: Files + Input>(
+    rt: &R,
+    form: Form,
+    i: usize,
+    name: &[u8],
+    bytes: &mut [u8],
+    answers: &mut [u64],
+) -> Totals {
+    let loaded = files::read_file(rt, i, name, bytes);
     if !loaded.good {
         return show_unreadable(form, name);
     }

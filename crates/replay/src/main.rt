@@ -7,51 +7,57 @@ mod totals; // how many traces of each kind
 
 use files::{NAME, Status};
 use forms::{ANSWERS, Asked, BYTES, Form, form_named, show_break, show_end, show_file};
-use libc::STDERR_FILENO;
+use std::env::Env;
+use std::fs::Files;
+use std::io::Input;
 use totals::{Totals, no_traces};
+
+const STDERR: i32 = 2;
 
 // The form's name is argument 1, and the files follow.
 const FIRST_FILE: usize = 2;
 
 // The form that argument 1 names.
-fn form_asked() -> Asked {
+fn form_asked<R: Env>(rt: &R) -> Asked {
     let mut buffer = [0u8; 16];
-    let n = os::arg(1, &mut buffer);
+    let n = files::argument(rt, 1, &mut buffer);
     form_named(&buffer[..n])
 }
 
 // The file that argument i names.
-fn show_named(
+fn show_named<R: Env + Files + Input>(
+    rt: &R,
     form: Form,
     i: usize,
     name: &mut [u8],
     bytes: &mut [u8],
     answers: &mut [u64],
 ) -> Totals {
-    let n = os::arg(i, name);
+    let n = files::argument(rt, i, name);
     let parted = show_break(i == FIRST_FILE);
-    parted.and(show_file(form, &name[..n], bytes, answers))
+    parted.and(show_file(rt, form, i, &name[..n], bytes, answers))
 }
 
-fn show_argument(
+fn show_argument<R: Env + Files + Input>(
+    rt: &R,
     form: Form,
     i: usize,
     name: &mut [u8; NAME],
     bytes: &mut [u8; BYTES],
     answers: &mut [u64; ANSWERS],
 ) -> Totals {
-    show_named(form, i, name, bytes, answers)
+    show_named(rt, form, i, name, bytes, answers)
 }
 
 // All files; the room for their bytes and answers is made once.
-fn show_files(form: Form, count: usize) -> Totals {
+fn show_files<R: Env + Files + Input>(rt: &R, form: Form, count: usize) -> Totals {
     let mut name = files::name_buffer();
     let mut bytes = [0u8; BYTES];
     let mut answers = [0u64; ANSWERS];
     let mut totals = no_traces();
     let mut i: usize = FIRST_FILE;
     while i < count {
-        totals = totals.and(show_argument(form, i, &mut name, &mut bytes, &mut answers));
+        totals = totals.and(show_argument(rt, form, i, &mut name, &mut bytes, &mut answers));
         i = i + 1;
     }
     totals.and(show_end(form, totals))
@@ -59,7 +65,7 @@ fn show_files(form: Form, count: usize) -> Totals {
 
 // One line about wrong use.
 fn wrong_use(line: &[u8]) -> Status {
-    io::write_all(STDERR_FILENO, line);
+    io::write_all(STDERR, line);
     Status::WrongUse
 }
 
@@ -71,8 +77,9 @@ fn too_many(form: Form, count: usize) -> bool {
     }
 }
 
-fn run(count: usize) -> Status {
-    let asked = form_asked();
+fn run<R: Env + Files + Input>(rt: &R) -> Status {
+    let count = files::argument_count(rt);
+    let asked = form_asked(rt);
     let Asked::Is(form) = asked else {
         return wrong_use(b"ring: replay FORM FILE..\n");
     };
@@ -82,9 +89,9 @@ fn run(count: usize) -> Status {
     if too_many(form, count) {
         return wrong_use(b"ring: csv takes one file\n");
     }
-    show_files(form, count).status()
+    show_files(rt, form, count).status()
 }
 
-fn main() {
-    files::tell(run(os::arg_count()));
+fn main(rt: HostRuntime) {
+    files::tell(run(&rt));
 }
