@@ -6,6 +6,7 @@ mod arguments; // the program's arguments
 mod load; // the bytes of a file
 mod links; // files whose names are not UTF-8
 mod reasons; // why a file cannot be read
+mod output; // where standard output goes
 mod names; // room for a file's name
 mod words; // whether bytes are a word
 mod status; // how a program ended
@@ -14,5 +15,6 @@ mod status; // how a program ended
 pub use arguments::{argument, argument_count};
 pub use load::{Loaded, read_file};
 pub use names::{NAME, name_buffer};
+pub use output::is_piped;
 pub use status::{Status, tell};
 pub use words::is_word;

@@ -49,6 +49,14 @@ fn show_argument<R: Env + Files + Input>(
     show_named(rt, form, i, name, bytes, answers)
 }
 
+// Whether the reader of a pipe went away, so that nothing more is to be printed.
+fn has_no_reader<R: Files>(rt: &R, totals: Totals) -> bool {
+    if totals.written {
+        return false;
+    }
+    files::is_piped(rt)
+}
+
 // All files; the room for their bytes and answers is made once.
 fn show_files<R: Env + Files + Input>(rt: &R, form: Form, count: usize) -> Totals {
     let mut name = files::name_buffer();
@@ -58,6 +66,9 @@ fn show_files<R: Env + Files + Input>(rt: &R, form: Form, count: usize) -> Total
     let mut i: usize = FIRST_FILE;
     while i < count {
         totals = totals.and(show_argument(rt, form, i, &mut name, &mut bytes, &mut answers));
+        if has_no_reader(rt, totals) {
+            return totals;
+        }
         i = i + 1;
     }
     totals.and(show_end(form, totals))
