@@ -1,5 +1,4 @@
-// Drain in one call: the part of the buffer that was filled is handed back, in a struct that keeps hold of it. In a file of its own: the borrow
-// checker does not cover a function that makes such a struct, so the proof of `drain` is by hand, and all that it calls is covered.
+// Drain in one call: the part of the buffer that was filled is handed back, in a struct that keeps hold of it.
 ghost use Rattle.std.specs.Prelude.{◌≡◌, ◌≤◌, length, take};
 ghost use Rattle.rules.specs.Drain.{drain_rule};
 ghost use Rattle.ring.specs.DrainPart.{HandedBack};

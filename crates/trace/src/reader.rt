@@ -1,5 +1,4 @@
-// A trace that is read: a struct that keeps hold of its bytes, and thin functions over it, each proved by hand. `replay` has plain parameters, and
-// whoever calls it needs no proof by hand.
+// A trace that is read: a struct that keeps hold of its bytes, and thin functions over it.
 ghost use Rattle.std.specs.Prelude.{◌≡◌};
 ghost use Rattle.rules.specs.Actions.{coded_at};
 ghost use Rattle.ring.specs.Replay.{replay_outcome};
