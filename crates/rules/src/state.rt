@@ -42,7 +42,7 @@ pub enum ReaderPhase {
     Ready(PageNo, PageNo),
 }
 
-// The reader. A struct, since a field that is an enum cannot be stored to by itself.
+// The reader. A struct of one field, since an older Rattle could not store to a field that is an enum by itself.
 #[derive(Clone, Copy)]
 pub struct Reader {
     pub phase: ReaderPhase,
