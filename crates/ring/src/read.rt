@@ -56,7 +56,7 @@ fn plan_ready(p: PageNo, h: PageNo, words: &[u32; 17]) -> Fetch
     }
 }
 
-// Which rule applies to the reader, by its phase. The reader is passed whole, since a field that is an enum is not passed by itself.
+// Which rule applies to the reader, by its phase. The reader is passed whole.
 pub(crate) fn plan_reader<'a>(
     reader: Reader,
     size: Size,

@@ -153,7 +153,7 @@ fn plan_filled(depth: u32) -> Move
     if depth == 1 { Move::Commit } else { Move::Pend }
 }
 
-// Which rule applies to the top record, by its phase. The record is passed whole, since a field that is an enum is not passed by itself.
+// Which rule applies to the top record, by its phase. The record is passed whole.
 pub(crate) fn plan_phase<'a>(
     w: Writer,
     size: Size,
