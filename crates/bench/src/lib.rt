@@ -12,8 +12,7 @@ use ring::{Action, Ring};
 
 // A Write while a writer is at work, then Reads until nothing waits, then a Begin. The actions are made on a ring of 16 pages of 16 slots in stop
 // mode; the answer is how many readings they handed out.
-#[unsafe(no_mangle)]
-pub extern "C" fn bench_by_methods(actions: u32) -> u64
+pub fn bench_by_methods(actions: u32) -> u64
     ensures { result ≡ handed_after actions }
 {
     let mut s = Ring::fresh(Ring::MOST_PAGES, Ring::MOST_SLOTS, Ring::STOP);
@@ -46,8 +45,7 @@ fn next_action(depth: u32, handed: u64, committed: u64, value: u32) -> Action
 }
 
 // The same loop by `Ring::act`.
-#[unsafe(no_mangle)]
-pub extern "C" fn bench_by_act(actions: u32) -> u64
+pub fn bench_by_act(actions: u32) -> u64
     ensures { result ≡ handed_after actions }
 {
     let mut s = Ring::fresh(Ring::MOST_PAGES, Ring::MOST_SLOTS, Ring::STOP);
@@ -66,8 +64,7 @@ pub extern "C" fn bench_by_act(actions: u32) -> u64
 }
 
 // The replay of a trace, with its answers in the buffer lent; the answer is how many actions it made.
-#[unsafe(no_mangle)]
-pub extern "C" fn bench_replay(bytes: &[u8], answers: &mut [u64]) -> usize
+pub fn bench_replay(bytes: &[u8], answers: &mut [u64]) -> usize
     ensures { (result ≡ (replayed_from bytes.now first_action answers.old).made) × (answers.new ≡ buffer_from bytes.now first_action answers.old) }
 {
     let run = trace::replay(bytes, answers);
@@ -76,8 +73,7 @@ pub extern "C" fn bench_replay(bytes: &[u8], answers: &mut [u64]) -> usize
 
 // The ring that a trace leaves, drained `turns` times, or once where that is 0, each time as the trace left it; the answer is how many elements a
 // drain fills.
-#[unsafe(no_mangle)]
-pub extern "C" fn bench_drain(
+pub fn bench_drain(
     bytes: &[u8],
     answers: &mut [u64],
     buffer: &mut [u64],
