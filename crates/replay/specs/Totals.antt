@@ -1,5 +1,5 @@
 -- The status that the program tells: the worst of what happened. Assumes nothing.
-use Rattle.std.specs.Prelude.{cond, not, ◌&&◌, ◌==◌}
+use Rattle.std.specs.Prelude.{cond, ◌&&◌, ◌==◌}
 use Rattle.files.specs.declared.status.Status.{Status}
 use Rattle.files.specs.declared.status.Status.TheVariants.{Whole, Refused, NotWritten}
 use Rattle.replay.specs.declared.totals.Totals.{Totals}
