@@ -76,7 +76,9 @@ fn look_at(part: &mut [u64], from: u64, ring: Ring, last: Last) -> Seen {
 // A drain into the buffer lent: the part that it filled is looked at.
 pub(crate) fn drain_once(ring: Ring, buffer: &mut [u64], from: u64) -> Seen {
     let d = ring.drain(buffer);
-    look_at(d.part, from, d.ring, d.last)
+    let after = d.ring;
+    let last = d.last;
+    look_at(d.part, from, after, last)
 }
 
 // How many elements from `count` on are as they were.
