@@ -4,8 +4,8 @@ use mathlib.Core.Path.{refl}
 use Prim.Native.Nat.{ℕ}
 use Rattle.rules.specs.Shape.{numbers_fit, layout_fits, in_shape}
 use Rattle.rules.specs.SetUp.{fresh_words}
-use Rattle.rules.specs.Cases.{Holds, k1-to-k8, k9, k10, k11, table}
+use Rattle.rules.specs.Cases.{Holds, k1_to_k8, k9, k10, k11, table}
 
 pub cases-hold : (A B C D E : ℕ) → Holds (table A B C D E)
-unfolding numbers_fit layout_fits in_shape fresh_words k1-to-k8 k9 k10 k11 table
+unfolding numbers_fit layout_fits in_shape fresh_words k1_to_k8 k9 k10 k11 table
 cases-hold A B C D E = refl

@@ -45,5 +45,5 @@ receipts-add-up s =
     (in_shape s)
     (λ fits.
     let i = in-shape s fits in
-    rw fits (counts-add-up s.counts i.begun i.handed-overwritten i.committed-taken i.taken-dropped))
+    rw fits (counts-add-up s.counts i.begun i.handed_overwritten i.committed_taken i.taken_dropped))
     (λ broken. rw broken refused-adds-up)

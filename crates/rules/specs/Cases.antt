@@ -102,8 +102,8 @@ abbrev pub small : List Row → Case
 small rows = from 2 1 0 rows
 
 -- K1 to K8 are one run
-unfoldable pub k1-to-k8 : Case
-k1-to-k8 =
+unfoldable pub k1_to_k8 : Case
+k1_to_k8 =
     small
     -- "Words start 4, 1, 0."
     (row [] [] (Words (4 ∷ 1 ∷ 0 ∷ []) ∷ RefusalIs 0 ∷ [])
@@ -173,7 +173,7 @@ set_up_gets pages slots mode number = from pages slots mode (row [] [] (RefusalI
 -- all of it; the values in the readings of K9 to K11 are any
 unfoldable pub table : ℕ → ℕ → ℕ → ℕ → ℕ → List Case
 table A B C D E =
-    k1-to-k8
+    k1_to_k8
     ∷ k9 A B C
     ∷ k10 A B C
     ∷ k11 A B C D E

@@ -13,8 +13,8 @@ use Rattle.ring.proofs.moves.Laws.{refused-is-not-allowed}
 
 pub record Allows (fits : Bool) (depth begun : ℕ) : Type 0 where
   pub shape : fits ≡ true
-  pub not-deep : depth ≡ most_depth → ⊥
-  pub not-worn : begun ≡ most_count → ⊥
+  pub not_deep : depth ≡ most_depth → ⊥
+  pub not_worn : begun ≡ most_count → ⊥
 
 pub allows : (fits : Bool) (depth begun : ℕ) → begin_verdict fits depth begun ≡ Allowed → Allows fits depth begun
 allows false depth begun h = absurd (refused-is-not-allowed _ h)
@@ -24,4 +24,4 @@ allows true depth begun h =
     (λ d.
     by_bool (eqb begun most_count)
     (λ b. absurd (refused-is-not-allowed _ (rw (d, b) at h)))
-    (λ b. record { shape = refl; not-deep = eqb-false depth most_depth d; not-worn = eqb-false begun most_count b }))
+    (λ b. record { shape = refl; not_deep = eqb-false depth most_depth d; not_worn = eqb-false begun most_count b }))

@@ -99,7 +99,7 @@ module _ (r : State) (s : InShape r) where
   change-precondition (Begin v) = (s.depth, s.begun)
   change-precondition Write =
       record {
-        pages = s.pages-most;
+        pages = s.pages_most;
         tail = omega (arith, s);
         phase = λ n. top-fits r s n;
         moved = λ n.
@@ -114,7 +114,7 @@ module _ (r : State) (s : InShape r) where
       }
   change-precondition Read =
       record {
-        pages = s.pages-most;
+        pages = s.pages_most;
         page = omega (arith, s);
         position = omega (arith, s);
         handed = s.handed;
@@ -161,5 +161,5 @@ module _ (r : State) (s : InShape r) where
   change-stores Write =
       by_cond (λ (w : Verdict). StoresPrecondition (judged-by moved_by w).stores) (eqb r.depth 0)
       (λ e. tt)
-      (λ e. stores-precondition r.size r.counts.taken (top r).value r.words s.slots-most (plan_write r) (plan-precondition r s (eqb-false r.depth 0 e)))
+      (λ e. stores-precondition r.size r.counts.taken (top r).value r.words s.slots_most (plan_write r) (plan-precondition r s (eqb-false r.depth 0 e)))
   change-stores Read = read-stores-precondition r.places.reader r.words (plan_read r) (read.plan-precondition r s) (omega (arith, s))

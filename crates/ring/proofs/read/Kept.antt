@@ -24,10 +24,10 @@ use Rattle.rules.proofs.Lists.{by-eq, by-lt, and_left, and_right, and_both, each
 
 -- the tests of the pieces that a Read changes
 pub record Parts (size : Size) (places : Places) (reader : Reader) (words used : List ℕ) : Type 0 where
-  pub places-fit : places_fit places size ≡ true
-  pub reader-fits : reader_fits reader.phase size ≡ true
-  pub words-fit : words_fit words size.pages ≡ true
-  pub used-fit : used_fit used size.pages size.slots ≡ true
+  pub places_fit : places_fit places size ≡ true
+  pub reader_fits : reader_fits reader.phase size ≡ true
+  pub words_fit : words_fit words size.pages ≡ true
+  pub used_fit : used_fit used size.pages size.slots ≡ true
 
 module _ (r : State) (h : in_shape r ≡ true) where
   pub parts : Parts r.size r.places r.reader r.words r.used
@@ -36,7 +36,7 @@ module _ (r : State) (h : in_shape r ≡ true) where
       let l = layout_fits r.size r.places r.reader r.stack r.depth r.words r.used in
       let whole = and_left (ring_fits r) (numbers_fit r.numbers) h in
       let e = each (layout_tests r.size r.places r.reader r.stack r.depth r.words r.used) (and_right (counts_fit r.counts) l whole) in
-      record { places-fit = e.1.0; reader-fits = e.1.1.0; words-fit = e.1.1.1.1.0; used-fit = e.1.1.1.1.1.0 }
+      record { places_fit = e.1.0; reader_fits = e.1.1.0; words_fit = e.1.1.1.1.0; used_fit = e.1.1.1.1.1.0 }
 
   -- the pieces stored
   abbrev with : Counts → Places → Reader → List ℕ → List ℕ → State
@@ -55,7 +55,7 @@ module _ (r : State) (h : in_shape r ≡ true) where
       and_both
       (and_both c
       (every-each (layout_tests r.size places reader r.stack r.depth words used)
-      (e.0, (p.places-fit, (p.reader-fits, (e.1.1.1.0, (p.words-fit, (p.used-fit, tt))))))))
+      (e.0, (p.places_fit, (p.reader_fits, (e.1.1.1.0, (p.words_fit, (p.used_fit, tt))))))))
       (and_right (ring_fits r) (numbers_fit r.numbers) h)
 
 -- ---- the cells

@@ -50,13 +50,13 @@ Planned r Miss = Unit {0}
 module _ (r : State) (s : InShape r) where
   pub limit-fits : read_limit r.places r.used ≤ r.size.slots
   limit-fits =
-      let used = s.used-at r.places.reader.0 s.reader in
+      let used = s.used_at r.places.reader.0 s.reader in
       by_cond (λ (k : ℕ). k ≤ r.size.slots) (reader_on_commit r.places) (λ e. omega (arith, s)) (λ e. omega (arith, s, used))
 
   pub next_fits : (p : ℕ) → p ≤ r.size.pages → (page_in (word_at r.words (page p))).0 ≤ r.size.pages
   next_fits p hp =
       let w = word_at r.words (page p) in
-      leb-true (page_in w).0 r.size.pages (and_left (leb (page_in w).0 r.size.pages) _ (s.word-at p hp))
+      leb-true (page_in w).0 r.size.pages (and_left (leb (page_in w).0 r.size.pages) _ (s.word_at p hp))
 
   find-planned : (found : Search) → Tells r.words r.size.pages r.places.reader.0 found → Planned r (find_by found)
   find-planned (At p h) t = (t.0, rw t.3 (next_fits p.0 t.0))
@@ -101,4 +101,4 @@ module _ (r : State) (s : InShape r) where
   event-precondition e =
       let below = event-here e in
       let most = limit-fits in
-      slot_index-room r.size r.places.reader r.places.position (omega (arith, s)) s.slots-most (omega (arith, s))
+      slot_index-room r.size r.places.reader r.places.position (omega (arith, s)) s.slots_most (omega (arith, s))

@@ -70,7 +70,7 @@ module _ (q : State) (n l : ℕ) (last : Last) where
 
 module _ (r : State) (s : InShape r) where
   pub handed-fits : (x : ℕ) → x + r.counts.overwritten ≤ r.counts.committed → counts_fit (counts_handed x r.counts) ≡ true
-  handed-fits x le = counts-true (counts_handed x r.counts) s.begun le s.committed-taken s.taken-dropped
+  handed-fits x le = counts-true (counts_handed x r.counts) s.begun le s.committed_taken s.taken_dropped
 
   position-fits : (k : ℕ) → k ≤ r.size.slots → places_fit (places_position k r.places) r.size ≡ true
   position-fits k le = places-true (places_position k r.places) r.size s.reader s.tail s.commit s.index le
@@ -125,7 +125,7 @@ module _ (r : State) where
         let p = parts r whole in
         reshaped r whole (counts_handed (r.counts.handed + j) r.counts) (places_position (r.places.position + j) r.places) r.reader r.words r.used
         (handed-fits r s (r.counts.handed + j) agree)
-        (record { places-fit = position-fits r s (r.places.position + j) le; reader-fits = p.reader-fits; words-fit = p.words-fit; used-fit = p.used-fit })
+        (record { places_fit = position-fits r s (r.places.position + j) le; reader_fits = p.reader_fits; words_fit = p.words_fit; used_fit = p.used_fit })
 
     -- the Read after j Events is an Event
     out-plan : (j : ℕ) → r.places.position + j < read_limit r.places r.used → Event ≡ plan_read (out j r)
@@ -249,7 +249,7 @@ module _ (r : State) (whole : in_shape r ≡ true) (space left : ℕ) (last : La
   kept places reader words used p ph w u =
       let s = shaped in
       reshaped r whole (counts_handed 0 r.counts) places reader words used (handed-fits r s 0 (omega (arith, s)))
-      (record { places-fit = p; reader-fits = ph; words-fit = w; used-fit = u })
+      (record { places_fit = p; reader_fits = ph; words_fit = w; used_fit = u })
 
   -- the position stays
   still : places_fit (places_before r.places 0) r.size ≡ true
@@ -276,7 +276,7 @@ module _ (r : State) (whole : in_shape r ≡ true) (space left : ℕ) (last : La
       let p : r.places.position + suc j ≡ r.places.position + (suc j - 1) + 1 = omega arith in
       let then = places_position (r.places.position + (suc j - 1) + 1) r.places in
       record {
-        shape = kept then r.reader r.words r.used (position-fits r s (r.places.position + (suc j - 1) + 1) (omega arith)) fit.reader-fits fit.words-fit fit.used-fit;
+        shape = kept then r.reader r.words r.used (position-fits r s (r.places.position + (suc j - 1) + 1) (omega arith)) fit.reader_fits fit.words_fit fit.used_fit;
         agree = agree;
         rest =
             ap (λ (n : ℕ). drains_on space n r last) l
@@ -300,31 +300,31 @@ module _ (r : State) (whole : in_shape r ≡ true) (space left : ℕ) (last : La
       subst (λ (k : ℕ). Turned r space left last (with Event k)) e
       (events h.0 (n - 1) (omega (arith, two.0, three.0, h.1)) (omega (arith, two.1, three.0)) (omega (arith, three.1, s)))
   by-rule Empty plan h =
-      other Empty plan refl refl refl more (kept (places_before r.places 0) r.reader r.words r.used still fit.reader-fits fit.words-fit fit.used-fit)
+      other Empty plan refl refl refl more (kept (places_before r.places 0) r.reader r.words r.used still fit.reader_fits fit.words_fit fit.used_fit)
   by-rule Busy plan h =
-      other Busy plan refl refl refl more (kept (places_before r.places 0) r.reader r.words r.used still fit.reader-fits fit.words-fit fit.used-fit)
+      other Busy plan refl refl refl more (kept (places_before r.places 0) r.reader r.words r.used still fit.reader_fits fit.words_fit fit.used_fit)
   by-rule (Find p q) plan h =
       other (Find p q) plan refl refl refl (omega arith)
-      (kept (places_before r.places 0) (record { phase = phase.Found p q }) r.words r.used still (pages-true p q r.size.pages h.0 h.1) fit.words-fit fit.used-fit)
+      (kept (places_before r.places 0) (record { phase = phase.Found p q }) r.words r.used still (pages-true p q r.size.pages h.0 h.1) fit.words_fit fit.used_fit)
   by-rule (Prepare p q) plan h =
       let w = word_of (page_in (word_at r.words q)) header_flag in
       let words = set r.words r.places.reader.0 w in
       other (Prepare p q) plan refl refl refl (omega arith)
       (kept (places_before r.places 0) (record { phase = phase.Ready p q }) words r.used still (pages-true p q r.size.pages h.0 h.1)
-      (set-word r.size.pages r.words r.places.reader.0 w fit.words-fit
+      (set-word r.size.pages r.words r.places.reader.0 w fit.words_fit
       (word-fits r.size.pages (page_in (word_at r.words q)) header_flag (next_fits r shaped q.0 h.1) (omega arith)))
-      fit.used-fit)
+      fit.used_fit)
   by-rule (Swap p q) plan h =
       let s = shaped in
       let w = word_of r.places.reader normal_flag in
       let words = set r.words p.0 w in
       other (Swap p q) plan refl refl refl (omega arith)
       (kept (places_reader q (places_position 0 r.places)) (record { phase = phase.Idle }) words (set r.used r.places.reader.0 0) (swap-fits r s q h.1) refl
-      (set-word r.size.pages r.words p.0 w fit.words-fit (word-fits r.size.pages r.places.reader normal_flag s.reader (omega arith)))
-      (no-used r.size.pages r.used r.size.slots r.places.reader.0 fit.used-fit))
+      (set-word r.size.pages r.words p.0 w fit.words_fit (word-fits r.size.pages r.places.reader normal_flag s.reader (omega arith)))
+      (no-used r.size.pages r.used r.size.slots r.places.reader.0 fit.used_fit))
   by-rule Miss plan h =
       other Miss plan refl refl refl (omega arith)
-      (kept (places_before r.places 0) (record { phase = phase.Idle }) r.words r.used still refl fit.words-fit fit.used-fit)
+      (kept (places_before r.places 0) (record { phase = phase.Idle }) r.words r.used still refl fit.words_fit fit.used_fit)
 
   pub turn-drains : Turned r space left last (turn_of r left space)
   turn-drains = by-rule (plan_read r) refl (planned r shaped)
@@ -337,17 +337,17 @@ module _ (r : State) (whole : in_shape r ≡ true) (space left : ℕ) (last : La
       let few = turn-drains.slots in
       record {
         some = more;
-        pages = s.pages-most;
+        pages = s.pages_most;
         page = omega (arith, s);
         position = omega (arith, s);
         phase = s.phase;
         fetch = plan-precondition r s;
-        events = record { page = omega (arith, s); agree = s.handed-overwritten; committed = s.committed; here = event-here r s };
+        events = record { page = omega (arith, s); agree = s.handed_overwritten; committed = s.committed; here = event-here r s };
         few = omega (arith, s);
         event = λ e.
             let l = event-here r s e in
             let most = limit-fits r s in
-            slot_index-room r.size r.places.reader _ (omega (arith, s)) s.slots-most (omega (arith, s));
+            slot_index-room r.size r.places.reader _ (omega (arith, s)) s.slots_most (omega (arith, s));
       }
 
   pub turn-stores : StoresPrecondition (turn_of r left space).stores

@@ -79,7 +79,7 @@ module _ (r : State) (s : InShape r) where
   module _ (somebody : r.depth ≡ 0 → ⊥) where
     -- the top record's phase fits, and so does the move that it leads to
     pub top-fits : writer_fits (top r).phase r.size ≡ true
-    top-fits = s.record-at (r.depth - 1) (omega arith)
+    top-fits = s.record_at (r.depth - 1) (omega arith)
 
     pub plan-precondition : MovePrecondition (plan_write r)
     plan-precondition = phase-precondition (top r).phase top-fits

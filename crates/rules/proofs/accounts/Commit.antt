@@ -67,7 +67,7 @@ module _ {s : State} {h : History} {L : ℕ → ℕ} {pc pt a r0 gap : ℕ} (v :
       record {
         size = length-all_committed h.readings ∙ o.size;
         nth = λ k hk. all_committed-number h.readings k ∙ o.nth k hk;
-        committed-below = λ k hk.
+        committed_below = λ k hk.
             all_committed-committed h.readings k (omega (arith, o.size)) ∙ sym (lt-ltb k s.counts.taken hk);
       }
 

@@ -56,7 +56,7 @@ module _ {s : State} {h : History} {L : ℕ → ℕ} {pc pt a r0 gap : ℕ} (v :
   stored_here : get_or values' (cell (S s) p j) 0 ≡ nth_value h.readings (get_or s.numbers (cell (S s) p j) 0)
   stored_here =
       let room = cell_room (S s) p j (omega (arith, p≤N, b.contents.sizes.pages)) b.contents.sizes.slots (omega (arith, j<S, b.contents.sizes.slots)) in
-      get_or-set_same s.values (cell (S s) p j) value 0 (omega (arith, b.contents.rooms.values-room)) ∙ holding.own
+      get_or-set_same s.values (cell (S s) p j) value 0 (omega (arith, b.contents.rooms.values_room)) ∙ holding.own
 
   -- in any slot that no record holds now
   stored : (q i : ℕ) → q ≤ N s → i < used_of s q → ((k : ℕ) → k < s.depth → phase_at (set s.stack (top_at s) filled) k ≡ Held q i → ⊥)
@@ -77,7 +77,7 @@ module _ {s : State} {h : History} {L : ℕ → ℕ} {pc pt a r0 gap : ℕ} (v :
       record {
         contents = record {
           sizes = b.contents.sizes;
-          rooms = record { numbers-room = b.contents.rooms.numbers-room; values-room = length-set s.values (cell (S s) p j) value ∙ b.contents.rooms.values-room };
+          rooms = record { numbers_room = b.contents.rooms.numbers_room; values_room = length-set s.values (cell (S s) p j) value ∙ b.contents.rooms.values_room };
           cap = b.contents.cap;
           numbers = b.contents.numbers;
         };

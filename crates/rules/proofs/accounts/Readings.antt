@@ -60,7 +60,7 @@ module _ {readings : List Numbered} {taken committed : ℕ} (o : Ordered reading
   reading-at m lt = ap (reading_of readings) (omega arith) ∙ search-at readings 0 m (λ k l. o.nth k (omega arith) ∙ omega arith) (omega arith)
 
   pub committed-at : (m : ℕ) → m < taken → is_committed readings m ≡ ltb m committed
-  committed-at m lt = ap (λ (x : Numbered). x.committed) (reading-at m lt) ∙ o.committed-below m lt
+  committed-at m lt = ap (λ (x : Numbered). x.committed) (reading-at m lt) ∙ o.committed_below m lt
 
   pub own_at : (m : ℕ) → m < taken → own_value readings m ≡ nth_value readings m
   own_at m lt = ap (λ (x : Numbered). x.own.value) (reading-at m lt)

@@ -85,7 +85,7 @@ module _ {s : State} {h : History} {L : ℕ → ℕ} {pc pt a r0 gap : ℕ} (v :
   number-new =
       let z = b.contents.sizes in
       let inside = cell_room (S s) (T s) new-slot (omega (arith, tail-le v, z.pages)) z.slots (omega (arith, z.slots)) in
-      get_or-set_same s.numbers new-cell s.counts.taken 0 (omega (arith, b.contents.rooms.numbers-room))
+      get_or-set_same s.numbers new-cell s.counts.taken 0 (omega (arith, b.contents.rooms.numbers_room))
 
   number_at : (p j : ℕ) → p ≡ T s → j ≡ new-slot → get_or numbers' (cell (S s) p j) 0 ≡ s.counts.taken
   number_at p j z y = ap (λ (k : ℕ). get_or numbers' (cell (S s) k j) 0) z ∙ ap (λ (k : ℕ). get_or numbers' (cell (S s) (T s) k) 0) y ∙ number-new
@@ -167,9 +167,9 @@ module _ {s : State} {h : History} {L : ℕ → ℕ} {pc pt a r0 gap : ℕ} (v :
             by-lt i s.counts.taken
             (λ lt. ap (λ (x : Numbered). x.number) (nth_reading-before h.readings new i (omega (arith, size))) ∙ o.nth i lt)
             (λ ge. ap (λ (x : Numbered). x.number) (nth_reading-last h.readings new i (omega (arith, size))) ∙ omega arith);
-        committed-below = λ i hi.
+        committed_below = λ i hi.
             by-lt i s.counts.taken
-            (λ lt. ap (λ (x : Numbered). x.committed) (nth_reading-before h.readings new i (omega (arith, size))) ∙ o.committed-below i lt)
+            (λ lt. ap (λ (x : Numbered). x.committed) (nth_reading-before h.readings new i (omega (arith, size))) ∙ o.committed_below i lt)
             (λ ge.
             ap (λ (x : Numbered). x.committed) (nth_reading-last h.readings new i (omega (arith, size)))
             ∙ sym (le-ltb i s.counts.committed (omega (arith, committed-taken v b))));
@@ -266,7 +266,7 @@ module _ {s : State} {h : History} {L : ℕ → ℕ} {pc pt a r0 gap : ℕ} (v :
       record {
         contents = record {
           sizes = b.contents.sizes;
-          rooms = record { numbers-room = length-set s.numbers new-cell s.counts.taken ∙ b.contents.rooms.numbers-room; values-room = b.contents.rooms.values-room };
+          rooms = record { numbers_room = length-set s.numbers new-cell s.counts.taken ∙ b.contents.rooms.numbers_room; values_room = b.contents.rooms.values_room };
           cap = cap-kept;
           numbers = numbers-kept;
         };

@@ -53,7 +53,7 @@ module _ (s : State) (g : RingOk s) (none : s.depth ≡ 0) where
 
   event-left : After fetch.Event
   event-left z =
-      let k = (in-shape (fetched fetch.Event s).state (ok-shape _ z)).handed-overwritten in
+      let k = (in-shape (fetched fetch.Event s).state (ok-shape _ z)).handed_overwritten in
       record { left = omega arith; none = none }
 
   -- the reader stands at the commit position
@@ -101,7 +101,7 @@ module _ (s : State) (g : RingOk s) (none : s.depth ≡ 0) where
 
 -- where nothing waits and no writer is at work, all that is taken is handed out or overwritten
 nothing_left : (s : State) → RingOk s → s.depth ≡ 0 → waiting s.counts ≡ 0 → s.counts.handed + s.counts.overwritten ≡ s.counts.taken
-nothing_left s g none z = omega (arith, (in-shape s (ok-shape s g)).handed-overwritten, g.all.none_open none)
+nothing_left s g none z = omega (arith, (in-shape s (ok-shape s g)).handed_overwritten, g.all.none_open none)
 
 -- `later` hands out all that waits, of fewer readings than the space that is left
 module _ (space : ℕ) (later : State → Last → DrainOutcome)

@@ -30,10 +30,10 @@ record From (r : State) (last : Last) (d : DrainOutcome) : Type 0 where
   pub count : ℕ
   pub state : d.state ≡ state_after r (reads count)
   pub events : d.events ≡ events_among (answers_of r (reads count))
-  pub last-is : d.last ≡ last_of last (answers_of r (reads count))
+  pub last_is : d.last ≡ last_of last (answers_of r (reads count))
 
 none_made : (r : State) (last : Last) → From r last (drain_ends r last)
-none_made r last = record { count = 0; state = refl; events = refl; last-is = refl }
+none_made r last = record { count = 0; state = refl; events = refl; last_is = refl }
 
 -- one Read, by the kind of its answer, and what comes after it
 module _ (r : State) (last : Last) where
@@ -51,10 +51,10 @@ module _ (r : State) (last : Last) where
         count = suc a.count;
         state = a.state;
         events = rw q (ap (λ (es : List ℕ). e ∷ es) a.events);
-        last-is = a.last-is;
+        last_is = a.last_is;
       }
-  one-made ending q later on a b = record { count = 1; state = refl; events = rw q; last-is = refl }
-  one-made quiet q later on a b = record { count = suc b.count; state = b.state; events = rw q b.events; last-is = b.last-is }
+  one-made ending q later on a b = record { count = 1; state = refl; events = rw q; last_is = refl }
+  one-made quiet q later on a b = record { count = suc b.count; state = b.state; events = rw q b.events; last_is = b.last_is }
 
 in-row-made : (later : State → Last → DrainOutcome) → ((r : State) (last : Last) → From r last (later r last)) → (left : ℕ) (r : State) (last : Last) → From r last (reads_in_row later left r last)
 in-row-made later made zero r last = none_made r last
@@ -77,11 +77,11 @@ refused-made r e =
       count = 1;
       state = ap (λ (o : Outcome). o.state) (refused r e);
       events = ap (λ (o : Outcome). events_among (o.answer ∷ [])) (refused r e);
-      last-is = ap (λ (o : Outcome). Given o.answer) (refused r e);
+      last_is = ap (λ (o : Outcome). Given o.answer) (refused r e);
     }
 
 singly : {r : State} {d : DrainOutcome} (m : From r None d) → (in_shape r ≡ false → m.count ≡ 1) → Singly r d
-singly m one = record { reads = m.count; state = m.state; events = m.events; last = m.last-is; refused = one }
+singly m one = record { reads = m.count; state = m.state; events = m.events; last = m.last_is; refused = one }
 
 pub drain-singly : (r : State) (space : ℕ) → Singly r (drain_rule r space)
 unfolding refused-made

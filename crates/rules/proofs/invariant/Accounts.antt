@@ -29,8 +29,8 @@ pub record Sizes (N S : ℕ) : Type 0 where
   pub slots : S ≤ most_slots
 
 pub record Rooms (numbers values : List ℕ) : Type 0 where
-  pub numbers-room : length numbers ≡ slot_room
-  pub values-room : length values ≡ slot_room
+  pub numbers_room : length numbers ≡ slot_room
+  pub values_room : length values ≡ slot_room
 
 -- ---- numbers and counts
 
@@ -67,7 +67,7 @@ nth_value readings m = (nth_reading readings m).own.value
 pub record Ordered (readings : List Numbered) (taken committed : ℕ) : Type 0 where
   pub size : length readings ≡ taken
   pub nth : (k : ℕ) → k < taken → (nth_reading readings k).number ≡ k
-  pub committed-below : (k : ℕ) → k < taken → (nth_reading readings k).committed ≡ ltb k committed
+  pub committed_below : (k : ℕ) → k < taken → (nth_reading readings k).committed ≡ ltb k committed
 
 -- ---- values
 

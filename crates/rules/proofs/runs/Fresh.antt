@@ -191,7 +191,7 @@ module _ (size : Size) (fits : size_fits size ≡ true) where
       record {
         contents = record {
           sizes = record { pages = n16; some = s1; slots = s16 };
-          rooms = record { numbers-room = length-replicate {A = ℕ} slot_room 0; values-room = length-replicate {A = ℕ} slot_room 0 };
+          rooms = record { numbers_room = length-replicate {A = ℕ} slot_room 0; values_room = length-replicate {A = ℕ} slot_room 0 };
           cap = λ p hp. omega (arith, zeros page_room p);
           numbers = record {
             slot = λ i j lo hi hj. unused (place n L i) j hj;
@@ -214,7 +214,7 @@ module _ (size : Size) (fits : size_fits size ≡ true) where
         quiet = tt;
         recorded = record {
           past = nothing-past;
-          ordered = record { size = refl; nth = λ k hk. absurd (omega arith); committed-below = λ k hk. absurd (omega arith) };
+          ordered = record { size = refl; nth = λ k hk. absurd (omega arith); committed_below = λ k hk. absurd (omega arith) };
           rightly = tt;
         };
         work = record { many = refl; value = λ i hi. absurd (omega arith); marks = λ i p hi o. absurd (omega arith) };

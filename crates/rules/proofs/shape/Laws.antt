@@ -17,10 +17,10 @@ use Rattle.rules.specs.declared.state.Counts.{Counts}
 use Rattle.rules.proofs.Lists.{each, every-each, and_left, and_right, and_both, all_below-at}
 
 pub record InShape (r : State) : Type 0 where
-  pub pages-least : least_pages ≤ r.size.pages
-  pub pages-most : r.size.pages ≤ most_pages
-  pub slots-least : least_slots ≤ r.size.slots
-  pub slots-most : r.size.slots ≤ most_slots
+  pub pages_least : least_pages ≤ r.size.pages
+  pub pages_most : r.size.pages ≤ most_pages
+  pub slots_least : least_slots ≤ r.size.slots
+  pub slots_most : r.size.slots ≤ most_slots
   pub mode : r.size.mode ≤ stop_mode
   pub reader : r.places.reader.0 ≤ r.size.pages
   pub tail : r.places.tail.0 ≤ r.size.pages
@@ -33,14 +33,14 @@ pub record InShape (r : State) : Type 0 where
   pub handed : r.counts.handed ≤ most_count
   pub overwritten : r.counts.overwritten ≤ most_count
   pub dropped : r.counts.dropped ≤ most_count
-  pub handed-overwritten : r.counts.handed + r.counts.overwritten ≤ r.counts.committed
-  pub committed-taken : r.counts.committed ≤ r.counts.taken
-  pub taken-dropped : r.counts.taken + r.counts.dropped ≤ r.counts.begun
+  pub handed_overwritten : r.counts.handed + r.counts.overwritten ≤ r.counts.committed
+  pub committed_taken : r.counts.committed ≤ r.counts.taken
+  pub taken_dropped : r.counts.taken + r.counts.dropped ≤ r.counts.begun
   pub phase : reader_fits r.reader.phase r.size ≡ true
   pub depth : r.depth ≤ most_depth
-  pub record-at : (i : ℕ) → i < r.depth → record_fits_at r.stack r.size i ≡ true
-  pub word-at : (p : ℕ) → p ≤ r.size.pages → word_fits_at r.words r.size.pages p ≡ true
-  pub used-at : (p : ℕ) → p ≤ r.size.pages → used_at r.used (page p) ≤ r.size.slots
+  pub record_at : (i : ℕ) → i < r.depth → record_fits_at r.stack r.size i ≡ true
+  pub word_at : (p : ℕ) → p ≤ r.size.pages → word_fits_at r.words r.size.pages p ≡ true
+  pub used_at : (p : ℕ) → p ≤ r.size.pages → used_at r.used (page p) ≤ r.size.slots
 
 -- ---- what fits, from plain facts
 
@@ -127,10 +127,10 @@ module _ (r : State) where
       let records : all_below r.depth (record_fits_at r.stack r.size) ≡ true =
       and_right (leb r.depth most_depth) (all_below r.depth (record_fits_at r.stack r.size)) d in
       record {
-        pages-least = leb-true _ _ s.0;
-        pages-most = leb-true _ _ s.1.0;
-        slots-least = leb-true _ _ s.1.1.0;
-        slots-most = leb-true _ _ s.1.1.1.0;
+        pages_least = leb-true _ _ s.0;
+        pages_most = leb-true _ _ s.1.0;
+        slots_least = leb-true _ _ s.1.1.0;
+        slots_most = leb-true _ _ s.1.1.1.0;
         mode = leb-true _ _ s.1.1.1.1.0;
         reader = leb-true _ _ p.0;
         tail = leb-true _ _ p.1.0;
@@ -143,12 +143,12 @@ module _ (r : State) where
         handed = leb-true _ _ k.1.1.1.0;
         overwritten = leb-true _ _ k.1.1.1.1.0;
         dropped = leb-true _ _ k.1.1.1.1.1.0;
-        handed-overwritten = leb-true _ _ a.0;
-        committed-taken = leb-true _ _ a.1.0;
-        taken-dropped = leb-true _ _ a.1.1.0;
+        handed_overwritten = leb-true _ _ a.0;
+        committed_taken = leb-true _ _ a.1.0;
+        taken_dropped = leb-true _ _ a.1.1.0;
         phase = e.1.1.0;
         depth = leb-true _ _ (and_left (leb r.depth most_depth) (all_below r.depth (record_fits_at r.stack r.size)) d);
-        record-at = λ i l. all_below-at (record_fits_at r.stack r.size) r.depth i records l;
-        word-at = λ i l. all_below-at (word_fits_at r.words r.size.pages) (r.size.pages + 1) i e.1.1.1.1.0 (omega arith);
-        used-at = λ i l. leb-true _ _ (all_below-at (used_fits_at r.used r.size.slots) (r.size.pages + 1) i e.1.1.1.1.1.0 (omega arith));
+        record_at = λ i l. all_below-at (record_fits_at r.stack r.size) r.depth i records l;
+        word_at = λ i l. all_below-at (word_fits_at r.words r.size.pages) (r.size.pages + 1) i e.1.1.1.1.0 (omega arith);
+        used_at = λ i l. leb-true _ _ (all_below-at (used_fits_at r.used r.size.slots) (r.size.pages + 1) i e.1.1.1.1.1.0 (omega arith));
       }

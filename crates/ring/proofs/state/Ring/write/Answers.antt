@@ -31,7 +31,7 @@ ready s e h =
 
 -- .. and so do the stores
 stores-within : (s : State) {c : Stores} → Ready s → c ≡ stores_after (plan_write s) s.size s.counts.taken (top s).value s.words → StoresPrecondition c
-stores-within s r e = rw e (stores-precondition s.size s.counts.taken (top s).value s.words r.shape.slots-most (plan_write s) r.planned)
+stores-within s r e = rw e (stores-precondition s.size s.counts.taken (top s).value s.words r.shape.slots_most (plan_write s) r.planned)
 
 pub returns-in-Refused : goal.returns-in-Refused
 returns-in-Refused c =
