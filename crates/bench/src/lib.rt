@@ -73,12 +73,7 @@ pub fn bench_replay(bytes: &[u8], answers: &mut [u64]) -> usize
 
 // The ring that a trace leaves, drained `turns` times, or once where that is 0, each time as the trace left it; the answer is how many elements a
 // drain fills.
-pub fn bench_drain(
-    bytes: &[u8],
-    answers: &mut [u64],
-    buffer: &mut [u64],
-    turns: u32,
-) -> usize
+pub fn bench_drain(bytes: &[u8], answers: &mut [u64], buffer: &mut [u64], turns: u32) -> usize
     ensures value { result ≡ length (drain_rule (replayed_from bytes.now first_action answers.old).state (length buffer.old)).events }
     ensures answers_after { answers.new ≡ buffer_from bytes.now first_action answers.old }
     ensures buffer_after { buffer.new ≡ buffer_after (drain_rule (replayed_from bytes.now first_action answers.old).state (length buffer.old)) buffer.old }
