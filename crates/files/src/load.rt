@@ -1,5 +1,5 @@
 // The bytes of a file, or of standard input.
-ghost use Rattle.std.specs.Prelude.{IfOk};
+ghost use Rattle.std.specs.Prelude.{◌≡◌, IfOk};
 ghost use Rattle.io.specs.Counts.{IsPrefixLen};
 
 use crate::links::open_link;
@@ -33,6 +33,27 @@ fn read_all<F: Read>(file: &mut F, bytes: &mut [u8]) -> Result<usize, Error>
     Ok(done)
 }
 
+// What stands for a file that cannot be read: a line on standard error says why.
+fn unreadable(name: &[u8], error: Error) -> Loaded
+    ensures { result.count ≡ 0 }
+{
+    complain(name, error);
+    Loaded {
+        good: false,
+        count: 0,
+    }
+}
+
+// An open file, or standard input.
+fn read_open<F: Read>(file: &mut F, name: &[u8], bytes: &mut [u8]) -> Loaded
+    ensures { IsPrefixLen result.count bytes.new }
+{
+    match read_all(file, bytes) {
+        Ok(count) => Loaded { good: true, count },
+        Err(error) => unreadable(name, error),
+    }
+}
+
 // Opens the file that an argument names. A path is UTF-8 here; where the name is not, the command lends a link to its file.
 fn open_named<R: Files>(rt: &R, argument: usize, name: &[u8]) -> Result<R::File, Error> {
     match from_utf8(name) {
@@ -41,35 +62,17 @@ fn open_named<R: Files>(rt: &R, argument: usize, name: &[u8]) -> Result<R::File,
     }
 }
 
-fn read_named<R: Files + Input>(
-    rt: &R,
-    argument: usize,
-    name: &[u8],
-    bytes: &mut [u8],
-) -> Result<usize, Error>
-    ensures { IfOk result (λ n. IsPrefixLen n bytes.new) }
-{
-    if text::is_input(name) {
-        let mut input = rt.reader();
-        return read_all(&mut input, bytes);
-    }
-    let mut file = open_named(rt, argument, name)?;
-    read_all(&mut file, bytes)
-}
-
 // As much of a file as the buffer has room for, where its name is the argument of this number; the name - is standard input. Where it cannot be read, a
 // line on standard error says why, and no byte is counted.
 pub fn read_file<R: Files + Input>(rt: &R, argument: usize, name: &[u8], bytes: &mut [u8]) -> Loaded
     ensures { IsPrefixLen result.count bytes.new }
 {
-    match read_named(rt, argument, name, bytes) {
-        Ok(count) => Loaded { good: true, count },
-        Err(error) => {
-            complain(name, error);
-            Loaded {
-                good: false,
-                count: 0,
-            }
-        }
+    if text::is_input(name) {
+        let mut input = rt.reader();
+        return read_open(&mut input, name, bytes);
+    }
+    match open_named(rt, argument, name) {
+        Ok(mut file) => read_open(&mut file, name, bytes),
+        Err(error) => unreadable(name, error),
     }
 }
