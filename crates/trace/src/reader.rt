@@ -10,7 +10,7 @@ use crate::walk::replay_from;
 use ring::{Coded, Replay, action_at};
 
 // A trace that is read: its bytes, which the reader keeps hold of, and the place of the next action.
-#[derive(Drop)]
+#[derive(Clone, Copy)]
 pub struct TraceReader<'a> {
     pub bytes: &'a [u8],
     pub at: usize,
