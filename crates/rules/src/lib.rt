@@ -1,5 +1,5 @@
-// The rules of the ring. Here are the types that they name, and no code but the number of a refusal; the rules are definitions in specs/, and what is
-// proved of them stands in proofs/.
+// The rules of the ring. Here are the types that they name, and no code but the number of a refusal and what is derived; the rules are definitions in
+// specs/, and what is proved of them stands in proofs/.
 #![tactic(auto)]
 
 pub mod state; // the parts of a ring, refusals, answers, actions, the receipt

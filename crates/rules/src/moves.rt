@@ -1,20 +1,5 @@
-// What an action decides, before it changes anything.
-use crate::state::{Answer, PageNo, Refusal, WriterPhase};
-
-// Whether an action is made or refused.
-#[derive(Clone, Copy)]
-pub enum Verdict {
-    Allowed,
-    Refused(Refusal),
-}
-
-// The lowest page p other than the reader page whose word is HEADER, with the page h in that word.
-#[derive(Clone, Copy)]
-pub enum Search {
-    // p, h
-    At(PageNo, PageNo),
-    Nowhere,
-}
+// What a Write or a Read decides, before it changes anything. Whether an action is refused is a `Result<(), Refusal>`.
+use crate::state::{Answer, PageNo, WriterPhase};
 
 // What a Write does.
 #[derive(Clone, Copy)]

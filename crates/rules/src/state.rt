@@ -1,15 +1,15 @@
 // The parts of a ring, and what is asked and answered: types with no function, so that each is read in one place.
 
 // The number of a page, 0 to N. A type of its own, so that it is never taken for a reading's number.
-#[derive(Clone, Copy)]
+#[derive(Clone, Copy, PartialEq, Eq)]
 pub struct PageNo(pub u32);
 
 // The number of a reading: the first reading that gets a slot has number 0.
-#[derive(Clone, Copy)]
+#[derive(Clone, Copy, PartialEq, Eq)]
 pub struct ReadingNo(pub u32);
 
 // What a writer does next; t is the tail page that it saw, n the page after it.
-#[derive(Clone, Copy)]
+#[derive(Clone, Copy, PartialEq, Eq)]
 pub enum WriterPhase {
     Want,
     // t, n
@@ -26,14 +26,14 @@ pub enum WriterPhase {
 }
 
 // A writer's record.
-#[derive(Clone, Copy)]
+#[derive(Clone, Copy, PartialEq, Eq)]
 pub struct Writer {
     pub value: u32,
     pub phase: WriterPhase,
 }
 
 // What the reader does next; p is the page whose word was HEADER, h the page in that word.
-#[derive(Clone, Copy)]
+#[derive(Clone, Copy, PartialEq, Eq)]
 pub enum ReaderPhase {
     Idle,
     // p, h
@@ -42,22 +42,17 @@ pub enum ReaderPhase {
     Ready(PageNo, PageNo),
 }
 
-// The reader. A struct of one field, since an older Rattle could not store to a field that is an enum by itself.
-#[derive(Clone, Copy)]
-pub struct Reader {
-    pub phase: ReaderPhase,
-}
-
 // The set-up: N ring pages (there is one page more, the reader page), S slots in each page, and the mode.
-#[derive(Clone, Copy)]
+#[derive(Clone, Copy, PartialEq, Eq)]
 pub struct Size {
     pub pages: u32,
     pub slots: u32,
+    // A number and no enum: Ring::fresh answers SETUP for a mode that is none, and a ring with such a mode is a ring out of shape.
     pub mode: u32,
 }
 
 // Where the ring stands: reader page, tail page, commit page with the commit index, and the read position on the reader page.
-#[derive(Clone, Copy)]
+#[derive(Clone, Copy, PartialEq, Eq)]
 pub struct Places {
     pub reader: PageNo,
     pub tail: PageNo,
@@ -67,7 +62,7 @@ pub struct Places {
 }
 
 // The counts. 64 bits wide, since a count that a step takes past 4,294,967,295 is kept as it is.
-#[derive(Clone, Copy)]
+#[derive(Clone, Copy, PartialEq, Eq)]
 pub struct Counts {
     pub begun: u64,
     pub taken: u64,
@@ -78,7 +73,7 @@ pub struct Counts {
 }
 
 // Why an action, a receipt, a set-up or a trace is refused.
-#[derive(Clone, Copy)]
+#[derive(Clone, Copy, PartialEq, Eq)]
 pub enum Refusal {
     Shape,
     Depth,
@@ -98,7 +93,7 @@ pub enum Refusal {
 }
 
 // What an action or a set-up answers.
-#[derive(Clone, Copy)]
+#[derive(Clone, Copy, PartialEq, Eq)]
 pub enum Answer {
     // a set-up that is not refused
     Accepted,
@@ -131,17 +126,17 @@ pub enum Answer {
 }
 
 // One action.
-#[derive(Clone, Copy)]
+#[derive(Clone, Copy, PartialEq, Eq)]
 pub enum Action {
     Begin(u32),
     Write,
     Read,
 }
 
-// The receipt. `refusal` is the number of the refusal, 0 for a receipt that is not refused; a refused receipt is all zero and not complete.
-#[derive(Clone, Copy)]
+// The receipt. A refused receipt says why, and is else all zero and not complete.
+#[derive(Clone, Copy, PartialEq, Eq)]
 pub struct Receipt {
-    pub refusal: u32,
+    pub refusal: Option<Refusal>,
     pub begun: u64,
     pub taken: u64,
     pub handed: u64,
@@ -150,11 +145,4 @@ pub struct Receipt {
     pub waiting: u64,
     pub open: u64,
     pub complete: bool,
-}
-
-// The last answer of a drain; none where no Read was made.
-#[derive(Clone, Copy)]
-pub enum Last {
-    None,
-    Given(Answer),
 }
