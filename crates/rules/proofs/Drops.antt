@@ -4,6 +4,7 @@ use mathlib.Core.Path.{◌≡◌, refl, ap}
 use native.Mathlib.Omega.{arith}
 use borrow.Author.Tests.{eqb-true, eqb-false}
 use lib.Dec.{eqb}
+use Rattle.std.specs.Prelude.{Result, Ok, Err}
 use Rattle.rules.specs.State.{State}
 use Rattle.rules.specs.Answers.{Outcome}
 use Rattle.rules.specs.Refusals.{write_verdict, judged}
@@ -11,10 +12,9 @@ use Rattle.rules.specs.Shape.{in_shape}
 use Rattle.rules.specs.Write.{plan_write, moved}
 use Rattle.rules.specs.Codes.{numbers_of}
 use Rattle.rules.specs.Drops.{DropLeaves, Drops}
+use Rattle.rules.specs.declared.state.Refusal.{Refusal}
 use Rattle.rules.specs.declared.state.Answer.{Answer}
 use Rattle.rules.specs.declared.state.Answer.TheVariants.{Dropped}
-use Rattle.rules.specs.declared.moves.Verdict.{Verdict}
-use Rattle.rules.specs.declared.moves.Verdict.TheVariants.{Allowed, Refused}
 use Rattle.rules.specs.declared.moves.Move.{Move}
 use Rattle.rules.proofs.Lists.{by_cond}
 use Rattle.rules.proofs.write.Moves.{Moves, of-planned}
@@ -53,10 +53,10 @@ module _ (s : State) where
       }
 
 -- a refused Write is not answered Dropped
-by-verdict : (v : Verdict) (s : State) (o : Outcome) → (o.answer ≡ Dropped → DropLeaves s o.state) → (judged v s o).answer ≡ Dropped
+by-verdict : (v : Result (Unit {0}) Refusal) (s : State) (o : Outcome) → (o.answer ≡ Dropped → DropLeaves s o.state) → (judged v s o).answer ≡ Dropped
     → DropLeaves s (judged v s o).state
-by-verdict Allowed s o leaves e = leaves e
-by-verdict (Refused why) s o leaves e = absurd (omega (arith, code_is e))
+by-verdict (Ok allowed) s o leaves e = leaves e
+by-verdict (Err why) s o leaves e = absurd (omega (arith, code_is e))
 
 pub drops : Drops
 drops s = by-verdict (write_verdict (in_shape s) s.depth) s (moved (plan_write s) s) (of-planned (Leaves s) s (each-leaves s))

@@ -10,7 +10,8 @@ use borrow.Author.Tests.{ltb-true, ltb-false, eqb-true, eqb-false}
 use lib.Dec.{eqb, ltb}
 use lib.ListN.{length, get_or, replicate, length-append, get_or-append}
 use lib.Seq.{get_or-append_seam}
-use Rattle.rules.specs.Lists.{and_then, every, all, all_below, none, at, least, tabulate}
+use Rattle.std.specs.Prelude.{Some, None}
+use Rattle.rules.specs.Lists.{and_then, every, all, all_below, least, tabulate}
 
 -- ---- case splits
 
@@ -99,7 +100,7 @@ module _ (f : ℕ → Bool) where
 -- ---- the lowest number that passes
 
 module _ (f : ℕ → Bool) where
-  pub least-is : (m i : ℕ) → i < m → least i f ≡ none → f i ≡ true → least m f ≡ at i
+  pub least-is : (m i : ℕ) → i < m → least i f ≡ None → f i ≡ true → least m f ≡ Some i
   least-is zero i l h e = absurd (omega arith)
   least-is (suc m) i l h e = by-eq i m (λ q. rw (← q, h, e)) (λ n. rw (least-is m i (omega arith) h e))
 

@@ -1,7 +1,7 @@
 -- Drain: Reads made one after the other, and their Events laid in a buffer that is lent. Request E2: "Ring, events and last answer are those
 -- of the same Reads made singly." A `DrainOutcome` is what some Reads leave; `drain_reads` makes them, in rows; `drain_rule` is the call.
 -- Assumes nothing.
-use Rattle.std.specs.Prelude.{◌≡◌, false, cond, List, [], ◌∷◌, ℕ, zero, suc, ◌+◌, ◌*◌, ◌^◌, ◌≤◌, replicate}
+use Rattle.std.specs.Prelude.{◌≡◌, false, cond, List, [], ◌∷◌, ℕ, zero, suc, ◌+◌, ◌*◌, ◌^◌, ◌≤◌, replicate, Option, Some, None}
 use Rattle.rules.specs.Limits.{most_in_row}
 use Rattle.rules.specs.State.{State}
 use Rattle.rules.specs.Answers.{Told, says, told, Outcome}
@@ -13,8 +13,6 @@ use Rattle.rules.specs.declared.state.Refusal.TheVariants.{Shape}
 use Rattle.rules.specs.declared.state.Answer.{Answer}
 use Rattle.rules.specs.declared.state.Answer.TheVariants as answer
 use Rattle.rules.specs.declared.state.Action.TheVariants.{Read}
-use Rattle.rules.specs.declared.state.Last.{Last}
-use Rattle.rules.specs.declared.state.Last.TheVariants.{None, Given}
 
 -- ---- what an answer is to a drain
 
@@ -61,19 +59,19 @@ drain_kind answer.Pending = quiet
 pub record DrainOutcome : Type 0 where
   pub state : State
   pub events : List ℕ
-  pub last : Last
+  pub last : Option Answer
   -- what that tells: its number and its values
   pub tells : Told
 
 -- what the last answer tells; "none" tells nothing
-abbrev pub told_last : Last → Told
+abbrev pub told_last : Option Answer → Told
 told_last None = says []
-told_last (Given a) = told a
+told_last (Some a) = told a
 
-abbrev pub drain_with : State → List ℕ → Last → Told → DrainOutcome
+abbrev pub drain_with : State → List ℕ → Option Answer → Told → DrainOutcome
 drain_with r events last tells = record { state = r; events = events; last = last; tells = tells }
 
-abbrev pub drain_ends : State → Last → DrainOutcome
+abbrev pub drain_ends : State → Option Answer → DrainOutcome
 drain_ends r last = drain_with r [] last (told_last last)
 
 -- one event before others
@@ -87,28 +85,28 @@ by_kind ending later end on = end
 by_kind quiet later end on = on
 
 -- after a Read with this outcome; both go on from its ring and its answer
-abbrev pub after_read : (State → Last → DrainOutcome) → (State → Last → DrainOutcome) → Outcome → DrainOutcome
+abbrev pub after_read : (State → Option Answer → DrainOutcome) → (State → Option Answer → DrainOutcome) → Outcome → DrainOutcome
 after_read later on o =
     by_kind (drain_kind o.answer)
-    (later o.state (Given o.answer))
-    (drain_ends o.state (Given o.answer))
-    (on o.state (Given o.answer))
+    (later o.state (Some o.answer))
+    (drain_ends o.state (Some o.answer))
+    (on o.state (Some o.answer))
 
 -- Reads in a row, at most `left` of them, until one is not quiet; after an Event the drain goes on as `later` says
-abbrev pub reads_in_row : (State → Last → DrainOutcome) → ℕ → State → Last → DrainOutcome
+abbrev pub reads_in_row : (State → Option Answer → DrainOutcome) → ℕ → State → Option Answer → DrainOutcome
 reads_in_row later zero r last = drain_ends r last
 reads_in_row later (suc left) r last = after_read later (reads_in_row later left) (read_rule r)
 
 -- "Reads are made until the buffer is full", of which `space` elements are left, "or an answer is Empty, Busy or a refusal, or" `most` "Reads
 -- in a row have brought none of these and no Event"
-abbrev pub drain_reads : ℕ → ℕ → State → Last → DrainOutcome
+abbrev pub drain_reads : ℕ → ℕ → State → Option Answer → DrainOutcome
 drain_reads most zero r last = drain_ends r last
 drain_reads most (suc space) r last = reads_in_row (drain_reads most space) most r last
 
 -- "A ring out of shape gets 1, whatever the buffer's length, with nothing stored and an empty part handed back. Otherwise length 0 means no
 -- Read, the same ring, last answer "none"."
 abbrev pub drain_rule : State → ℕ → DrainOutcome
-drain_rule r space = cond (in_shape r) (drain_reads most_in_row space r None) (drain_ends r (Given (answer.Refused Shape)))
+drain_rule r space = cond (in_shape r) (drain_reads most_in_row space r None) (drain_ends r (Some (answer.Refused Shape)))
 
 -- the buffer that the events are laid in: "the rest keeps its old contents"
 abbrev pub buffer_after : DrainOutcome → List ℕ → List ℕ
@@ -127,9 +125,9 @@ events_among [] = []
 events_among (a ∷ rest) = event_then (drain_kind a) (events_among rest)
 
 -- the last of some answers, after the one before them
-abbrev pub last_of : Last → List Answer → Last
+abbrev pub last_of : Option Answer → List Answer → Option Answer
 last_of last [] = last
-last_of last (a ∷ rest) = last_of (Given a) rest
+last_of last (a ∷ rest) = last_of (Some a) rest
 
 -- "the same Reads made singly": so many Reads, one after the other on the ring r, leave what a drain leaves (`drain-singly`, proofs/drain/Singly)
 pub record Singly (r : State) (d : DrainOutcome) : Type 0 where
@@ -143,10 +141,10 @@ pub record Singly (r : State) (d : DrainOutcome) : Type 0 where
 -- ---- that eight in a row never end a drain of a ring that is reached from a fresh one
 
 -- an Event, Empty or Busy
-pub data Brought : Last → Type 0 where
-  an_event : (n : ReadingNo) (v : ℕ) → Brought (Given (answer.Event n v))
-  an_empty : Brought (Given answer.Empty)
-  a_busy : Brought (Given answer.Busy)
+pub data Brought : Option Answer → Type 0 where
+  an_event : (n : ReadingNo) (v : ℕ) → Brought (Some (answer.Event n v))
+  an_empty : Brought (Some answer.Empty)
+  a_busy : Brought (Some answer.Busy)
 
 -- "a Read sequence brings Event, Empty or Busy within 6"
 abbrev pub enough : ℕ

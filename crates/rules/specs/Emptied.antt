@@ -2,17 +2,16 @@
 -- lent more elements than there are readings waiting hands out each of these and ends with Empty, and then every number given was handed out or
 -- overwritten.
 -- Assumes nothing.
-use Rattle.std.specs.Prelude.{◌≡◌, ℕ, ◌+◌, ◌<◌, length}
+use Rattle.std.specs.Prelude.{◌≡◌, ℕ, ◌+◌, ◌<◌, length, Some}
 use Rattle.rules.specs.State.{State}
 use Rattle.rules.specs.Receipt.{waiting}
 use Rattle.rules.specs.Replay.{Reached}
 use Rattle.rules.specs.Drain.{DrainOutcome, drain_rule}
 use Rattle.rules.specs.declared.state.Answer.TheVariants.{Empty}
-use Rattle.rules.specs.declared.state.Last.TheVariants.{Given}
 
 -- d is what the drain of the ring r leaves
 pub record Emptied (r : State) (d : DrainOutcome) : Type 0 where
-  pub last : d.last ≡ Given Empty
+  pub last : d.last ≡ Some Empty
   pub events : length d.events ≡ waiting r.counts
   pub all : d.state.counts.handed + d.state.counts.overwritten ≡ d.state.counts.taken
 

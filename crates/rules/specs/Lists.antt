@@ -1,6 +1,6 @@
 -- Rules tried in order, tests taken together, tests of every number below a bound, and lists made of a function.
 -- Assumes nothing.
-use Rattle.std.specs.Prelude.{Bool, true, false, cond, ◌&&◌, List, [], ◌∷◌, ◌++◌, ℕ, zero, suc}
+use Rattle.std.specs.Prelude.{Bool, true, false, cond, ◌&&◌, List, [], ◌∷◌, ◌++◌, ℕ, zero, suc, Option, Some, None}
 
 -- "First that applies": what stands beside the first test that passes, or else `otherwise`
 abbrev pub first : {A : Type 0} → List (Bool × A) → A → A
@@ -26,18 +26,15 @@ abbrev pub all_below : ℕ → (ℕ → Bool) → Bool
 all_below zero f = true
 all_below (suc k) f = all_below k f && f k
 
+-- the number found, or else k where it passes
+abbrev pub or_at : Option ℕ → Bool → ℕ → Option ℕ
+or_at (Some p) b k = Some p
+or_at None true k = Some k
+or_at None false k = None
+
 -- the lowest number below the bound that passes the test
-pub data Least : Type 0 where
-  none : Least
-  at : ℕ → Least
-
-abbrev pub or_at : Least → Bool → ℕ → Least
-or_at (at p) b k = at p
-or_at none true k = at k
-or_at none false k = none
-
-abbrev pub least : ℕ → (ℕ → Bool) → Least
-least zero f = none
+abbrev pub least : ℕ → (ℕ → Bool) → Option ℕ
+least zero f = None
 least (suc k) f = or_at (least k f) (f k) k
 
 -- f 0, f 1, .. f (k - 1)

@@ -14,7 +14,6 @@ use Rattle.rules.specs.declared.state.WriterPhase.TheVariants.{Want, Mark, Promo
 use Rattle.rules.specs.declared.state.Writer.{Writer}
 use Rattle.rules.specs.declared.state.ReaderPhase.{ReaderPhase}
 use Rattle.rules.specs.declared.state.ReaderPhase.TheVariants.{Idle, Found, Ready}
-use Rattle.rules.specs.declared.state.Reader.{Reader}
 
 -- "N, S and mode as above"
 abbrev pub size_tests : Size → List Bool
@@ -133,17 +132,17 @@ unfoldable pub numbers_fit : List ℕ → Bool
 numbers_fit numbers = all number_fits numbers
 
 -- where things stand: all of it but the counts and the slots' numbers
-abbrev pub layout_tests : Size → Places → Reader → List Writer → ℕ → List ℕ → List ℕ → List Bool
+abbrev pub layout_tests : Size → Places → ReaderPhase → List Writer → ℕ → List ℕ → List ℕ → List Bool
 layout_tests size places reader stack depth words used =
     size_fits size
     ∷ places_fit places size
-    ∷ reader_fits reader.phase size
+    ∷ reader_fits reader size
     ∷ stack_fits stack depth size
     ∷ words_fit words size.pages
     ∷ used_fit used size.pages size.slots
     ∷ []
 
-unfoldable pub layout_fits : Size → Places → Reader → List Writer → ℕ → List ℕ → List ℕ → Bool
+unfoldable pub layout_fits : Size → Places → ReaderPhase → List Writer → ℕ → List ℕ → List ℕ → Bool
 layout_fits size places reader stack depth words used = every (layout_tests size places reader stack depth words used)
 
 -- all of it but the slots' numbers

@@ -13,7 +13,6 @@ use Rattle.rules.specs.declared.state.WriterPhase.TheVariants.{Want}
 use Rattle.rules.specs.declared.state.Writer.{Writer}
 use Rattle.rules.specs.declared.state.ReaderPhase.{ReaderPhase}
 use Rattle.rules.specs.declared.state.ReaderPhase.TheVariants.{Idle}
-use Rattle.rules.specs.declared.state.Reader.{Reader}
 
 -- ---- the state
 
@@ -25,7 +24,8 @@ pub record State : Type 0 where
   pub counts : Counts
   -- how many records of the stack are in use
   pub depth : ℕ
-  pub reader : Reader
+  -- what the reader does next
+  pub reader : ReaderPhase
   -- writer records, the outermost first
   pub stack : List Writer
   -- for each page, its link word, and how many of its slots are reserved
@@ -60,7 +60,7 @@ abbrev pub counts_of : ℕ → ℕ → ℕ → ℕ → ℕ → ℕ → Counts
 counts_of begun taken committed handed overwritten dropped =
     record { begun = begun; taken = taken; committed = committed; handed = handed; overwritten = overwritten; dropped = dropped }
 
-abbrev pub state_with : Size → Places → Counts → ℕ → Reader → List Writer → List ℕ → List ℕ → List ℕ → List ℕ → State
+abbrev pub state_with : Size → Places → Counts → ℕ → ReaderPhase → List Writer → List ℕ → List ℕ → List ℕ → List ℕ → State
 state_with size places counts depth reader stack words used numbers values =
     record {
       size = size;
@@ -119,7 +119,7 @@ with_counts x s = state_with s.size s.places x s.depth s.reader s.stack s.words 
 abbrev pub with_depth : ℕ → State → State
 with_depth x s = state_with s.size s.places s.counts x s.reader s.stack s.words s.used s.numbers s.values
 
-abbrev pub with_reader : Reader → State → State
+abbrev pub with_reader : ReaderPhase → State → State
 with_reader x s = state_with s.size s.places s.counts s.depth x s.stack s.words s.used s.numbers s.values
 
 abbrev pub with_stack : List Writer → State → State
@@ -171,9 +171,6 @@ with_overwritten x r = with_counts (counts_overwritten x r.counts) r
 
 abbrev pub with_dropped : ℕ → State → State
 with_dropped x r = with_counts (counts_dropped x r.counts) r
-
-abbrev pub with_reader_phase : ReaderPhase → State → State
-with_reader_phase phase r = with_reader (record { phase = phase }) r
 
 -- ---- what stands where
 
@@ -229,7 +226,7 @@ pop r = with_depth (r.depth - 1) (set_record (r.depth - 1) no_writer r)
 
 abbrev pub blank : Size → State
 blank size =
-    state_with size (places_of (page 0) (page 0) (page 0) 0 0) (counts_of 0 0 0 0 0 0) 0 (record { phase = Idle }) (replicate most_depth no_writer)
+    state_with size (places_of (page 0) (page 0) (page 0) 0 0) (counts_of 0 0 0 0 0 0) 0 Idle (replicate most_depth no_writer)
     (replicate page_room 0)
     (replicate page_room 0)
     (replicate slot_room 0)

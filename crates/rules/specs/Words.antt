@@ -1,13 +1,11 @@
 -- Link words, and the search for the HEADER word among the ring pages. "A link word for each page: 4 × (next page) + flag."
 -- Assumes nothing.
-use Rattle.std.specs.Prelude.{Bool, ◌&&◌, not, List, ℕ, ◌+◌, ◌*◌, ◌/◌, ◌%◌, eqb}
+use Rattle.std.specs.Prelude.{Bool, ◌&&◌, not, List, ℕ, ◌+◌, ◌*◌, ◌/◌, ◌%◌, eqb, Option, Some, None}
 use Rattle.rules.specs.Limits.{header_flag}
-use Rattle.rules.specs.Lists.{Least, none, at, least}
+use Rattle.rules.specs.Lists.{least}
 use Rattle.rules.specs.State.{page, word_at}
 use Rattle.rules.specs.declared.state.PageNo.{PageNo}
 use Rattle.rules.specs.declared.state.Places.{Places}
-use Rattle.rules.specs.declared.moves.Search.{Search}
-use Rattle.rules.specs.declared.moves.Search.TheVariants.{At, Nowhere}
 
 -- Request E4: "Wanted for every value a word can have, in shape or not: the two parts are its quotient and remainder by 4." Code shifts and masks.
 
@@ -39,10 +37,11 @@ links words p n flag = eqb (word_at words p) (word_of n flag)
 abbrev pub heads : List ℕ → PageNo → ℕ → Bool
 heads words reader p = not (same_page (page p) reader) && eqb (flag_in (word_at words (page p))) header_flag
 
-abbrev pub found_at : List ℕ → Least → Search
-found_at words none = Nowhere
-found_at words (at p) = At (page p) (page_in (word_at words (page p)))
+-- a page that was found, with the page in its word
+abbrev pub found_at : List ℕ → Option ℕ → Option (PageNo × PageNo)
+found_at words None = None
+found_at words (Some p) = Some (page p, page_in (word_at words (page p)))
 
 -- "the lowest page p other than the reader page whose word is HEADER, h its page"; n is the last page, N
-abbrev pub find_header : List ℕ → ℕ → PageNo → Search
+abbrev pub find_header : List ℕ → ℕ → PageNo → Option (PageNo × PageNo)
 find_header words n reader = found_at words (least (n + 1) (heads words reader))

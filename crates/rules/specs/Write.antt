@@ -1,7 +1,7 @@
 -- Write: which rule applies to the top record, what each rule does, and the action. "Begin and Write".
 -- The first part reads only what decides; the second changes the ring.
 -- Assumes nothing.
-use Rattle.std.specs.Prelude.{Bool, true, false, cond, ◌&&◌, ◌||◌, List, [], ◌∷◌, ℕ, ◌+◌, eqb, ltb}
+use Rattle.std.specs.Prelude.{Bool, true, false, cond, ◌&&◌, ◌||◌, List, [], ◌∷◌, ℕ, ◌+◌, eqb, ltb, Option, Some, None}
 use Rattle.rules.specs.Limits.{stop_mode, normal_flag, header_flag, update_flag}
 use Rattle.rules.specs.Lists.{first}
 use Rattle.rules.specs.State.{reading, word_at, used_at, top, with_tail, with_commit_page, with_commit_index, with_taken, with_committed, with_overwritten, with_dropped, set_word, set_used, set_number, set_value, set_phase, pop, State}
@@ -15,8 +15,6 @@ use Rattle.rules.specs.declared.state.Places.{Places}
 use Rattle.rules.specs.declared.state.WriterPhase.{WriterPhase}
 use Rattle.rules.specs.declared.state.WriterPhase.TheVariants as phase
 use Rattle.rules.specs.declared.state.Answer.TheVariants as answer
-use Rattle.rules.specs.declared.moves.Search.{Search}
-use Rattle.rules.specs.declared.moves.Search.TheVariants.{At, Nowhere}
 use Rattle.rules.specs.declared.moves.Move.{Move}
 use Rattle.rules.specs.declared.moves.Move.TheVariants.{Become, Reserve, Drop, DropCommit, Mark, Promote, Clear, Push, Fill, Pend, Commit}
 
@@ -66,13 +64,13 @@ after_promote t n true = phase.Clear t n
 after_promote t n false = phase.Push t n
 
 -- "PROMOTE: if no page other than the reader page has a HEADER word ... Else nothing; answer Standing. The look and the store are one step"
-abbrev pub promote_by : Search → PageNo → WriterPhase → Move
-promote_by (At p h) n next = Become next answer.Standing
-promote_by Nowhere n next = Promote n next
+abbrev pub promote_by : Option (PageNo × PageNo) → PageNo → WriterPhase → Move
+promote_by (Some (p, h)) n next = Become next answer.Standing
+promote_by None n next = Promote n next
 
 -- "no page other than the reader page has a HEADER word": a look at every page, and not at n's word. n is named all the same, since a look at it
 -- alone is the easy mistake.
-abbrev pub promote_look : Size → Places → PageNo → List ℕ → Search
+abbrev pub promote_look : Size → Places → PageNo → List ℕ → Option (PageNo × PageNo)
 promote_look size places n words = find_header words size.pages places.reader
 
 abbrev pub plan_promote : Size → Places → PageNo → PageNo → Bool → List ℕ → Move

@@ -20,7 +20,7 @@ use Rattle.rules.proofs.invariant.Control.{Control}
 use Rattle.rules.proofs.invariant.Accounts.{nth_value, Quiet, lost_of, Past, Accounts}
 use Rattle.rules.proofs.accounts.Laws.{stored-own, page-le}
 
-module _ {s : State} {h : History} {L : ℕ → ℕ} {pc pt a r0 gap : ℕ} (v : Control s L pc pt) (b : Accounts s h L pc pt a r0 gap) (idle : s.reader.phase ≡ reading.Idle)
+module _ {s : State} {h : History} {L : ℕ → ℕ} {pc pt a r0 gap : ℕ} (v : Control s L pc pt) (b : Accounts s h L pc pt a r0 gap) (idle : s.reader ≡ reading.Idle)
     (in_page : s.places.position < used_of s (R s)) (in_commit : pc ≡ 0 → s.places.position < s.places.index) where
   abbrev position : ℕ
   position = s.places.position

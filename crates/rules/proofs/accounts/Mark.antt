@@ -301,7 +301,7 @@ module _ {s : State} {h : History} {L : ℕ → ℕ} {pc pt a r0 gap : ℕ} (v :
         values = values-kept;
         quiet =
             quiet-map s.words (N s) (R s) pc s.places.position uR s.places.position (get_or used' (R s) 0) (λ lo q. q ∙ sym (kept (R s) R≢n))
-            s.reader.phase v.reader b.quiet;
+            s.reader v.reader b.quiet;
         recorded = record {
           past =
               subst

@@ -5,7 +5,7 @@ use mathlib.Core.List.{List}
 use Prim.Native.Nat.{ℕ, suc, ◌+◌, ◌≤◌, ◌<◌}
 use native.Mathlib.Omega.{arith}
 use lib.ListN.{length, set, length-set}
-use Rattle.rules.specs.State.{with_words, with_reader_phase, top, set_phase, State}
+use Rattle.rules.specs.State.{with_words, with_reader, top, set_phase, State}
 use Rattle.rules.specs.Remember.{History}
 use Rattle.rules.specs.declared.state.WriterPhase.{WriterPhase}
 use Rattle.rules.specs.declared.state.Writer.{Writer}
@@ -36,7 +36,7 @@ module _ {s : State} {h : History} {L : ℕ → ℕ} {pc pt a r0 gap : ℕ} (b :
         stack_room = b.stack_room;
       }
 
-  pub reader-accounts : (ph : ReaderPhase) → Quiet ph s.places.position (used_of s (R s)) → Accounts (with_reader_phase ph s) h L pc pt a r0 gap
+  pub reader-accounts : (ph : ReaderPhase) → Quiet ph s.places.position (used_of s (R s)) → Accounts (with_reader ph s) h L pc pt a r0 gap
   reader-accounts ph q =
       record {
         contents = b.contents;

@@ -274,7 +274,7 @@ module _ {s : State} {h : History} {L : ℕ → ℕ} {pc pt a r0 gap : ℕ} (v :
         values = values-kept;
         quiet =
             quiet-map s.words (N s) (R s) pc s.places.position (used_of s (R s)) s.places.position (get_or used' (R s) 0)
-            (λ lo y. y ∙ sym (used-other (R s) (off lo))) s.reader.phase v.reader b.quiet;
+            (λ lo y. y ∙ sym (used-other (R s) (off lo))) s.reader v.reader b.quiet;
         recorded = record {
           past = past-kept;
           ordered = ordered-kept;

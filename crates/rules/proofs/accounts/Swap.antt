@@ -20,7 +20,7 @@ use Rattle.rules.proofs.control.Swap.{commit-ahead, h-oldest, lower-swap, newest
 use Rattle.rules.proofs.order.Places.{place-off, place-swap}
 
 module _ {s : State} {h : History} {L : ℕ → ℕ} {pc pt a r0 gap : ℕ} (v : Control s L pc pt) (b : Accounts s h L pc pt a r0 gap)
-    (p h0 : ℕ) (ready : s.reader.phase ≡ Ready p h0) (word-is : get_or s.words p 0 ≡ 4 * h0 + 1) where
+    (p h0 : ℕ) (ready : s.reader ≡ Ready p h0) (word-is : get_or s.words p 0 ≡ 4 * h0 + 1) where
   abbrev P : ℕ → ℕ
   P = place (R s) L
 

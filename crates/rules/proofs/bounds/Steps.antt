@@ -108,14 +108,14 @@ module _ (s : State) (k : BoundsOf s) where
 -- ---- the reader
 
 module _ {s : State} {L : ℕ → ℕ} {pc pt : ℕ} (v : Control s L pc pt) (k : BoundsOf s) (p h : ℕ) where
-  pub bounds-prepare : s.reader.phase ≡ Found p h → BoundsOf (prepare (page p) (page h) s)
+  pub bounds-prepare : s.reader ≡ Found p h → BoundsOf (prepare (page p) (page h) s)
   bounds-prepare q =
       let o = subst (ReaderOk s.words (N s) (R s) pc) q v.reader in
       let word = 4 * next_of s.words h + 1 in
       let new = get_or-set_same s.words (R s) word 0 (omega (arith, v.links)) in
       reworded k (omega (arith, ring-next v.links h o.3 o.4))
 
-  pub bounds-swap : s.reader.phase ≡ Ready p h → BoundsOf (swap (page p) (page h) s)
+  pub bounds-swap : s.reader ≡ Ready p h → BoundsOf (swap (page p) (page h) s)
   bounds-swap q =
       let o = subst (ReaderOk s.words (N s) (R s) pc) q v.reader in
       reworded k

@@ -105,5 +105,5 @@ module _ {s : State} {L : ℕ → ℕ} {pc pt : ℕ} (v : Control s L pc pt) (de
         records =
             records-set (RecordOk words' s.used (N s) (S s) P pc pt) s.stack s.depth (top_at s) pushing (top_below v deep) record-kept (moving-kept t n moving);
         reader =
-            reader-map s.words words' (N s) (R s) pc pc (λ h. h) (λ h. reflagged.other (R s) (λ q. t≢R h (sym q))) reflagged.next s.reader.phase v.reader;
+            reader-map s.words words' (N s) (R s) pc pc (λ h. h) (λ h. reflagged.other (R s) (λ q. t≢R h (sym q))) reflagged.next s.reader v.reader;
       }

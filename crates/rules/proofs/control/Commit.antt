@@ -33,5 +33,5 @@ commit-control {s} {pc = pc} {pt = pt} v none =
       depth = v.depth;
       records = λ i hi. absurd (omega arith);
       reader =
-          reader-map s.words s.words (N s) (R s) pc pt (λ z. omega (arith, o.le)) (λ z. refl) (λ p. refl) s.reader.phase v.reader;
+          reader-map s.words s.words (N s) (R s) pc pt (λ z. omega (arith, o.le)) (λ z. refl) (λ p. refl) s.reader v.reader;
     }

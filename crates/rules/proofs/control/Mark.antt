@@ -229,5 +229,5 @@ module _ {s : State} {L : ℕ → ℕ} {pc pt : ℕ} (v : Control s L pc pt) (de
               (λ i hi ne. record-map moving-kept marking-kept (phase_at s.stack i) (λ p o. owned-kept i p hi o) (v.records i hi)) owner-ok;
           reader =
               reader-map s.words words' (N s) (R s) pc (pc - 1) (λ h. omega (arith, commit-off)) (λ h. reflagged.other (R s) (λ q. t≢R (sym q)))
-              reflagged.next s.reader.phase v.reader;
+              reflagged.next s.reader v.reader;
         }

@@ -8,7 +8,7 @@ use mathlib.Core.List.{List}
 use Prim.Native.Nat.{ℕ, ◌-◌, ◌≤◌, ◌<◌}
 use native.Mathlib.Omega.{arith}
 use lib.ListN.{length, set, length-set}
-use Rattle.rules.specs.State.{top, with_counts, with_position, with_reader_phase, with_values, set_phase, State}
+use Rattle.rules.specs.State.{top, with_counts, with_position, with_reader, with_values, set_phase, State}
 use Rattle.rules.specs.declared.state.WriterPhase.{WriterPhase}
 use Rattle.rules.specs.declared.state.WriterPhase.TheVariants as phase
 use Rattle.rules.specs.declared.state.Writer.{Writer}
@@ -80,8 +80,8 @@ module _ {s : State} {L : ℕ → ℕ} {pc pt : ℕ} (v : Control s L pc pt) whe
   newest-off = place-off v.links.cycle (N s) (omega (arith, v.links.cycle.two))
 
   -- another phase of the reader; no clause reads the counts, the read position or the values
-  pub reader-control : (counts : Counts) (position : ℕ) (values : List ℕ) (ph : ReaderPhase) → ReaderIn (with_reader_phase ph s) pc
-      → Control (with_reader_phase ph (with_counts counts (with_position position (with_values values s)))) L pc pt
+  pub reader-control : (counts : Counts) (position : ℕ) (values : List ℕ) (ph : ReaderPhase) → ReaderIn (with_reader ph s) pc
+      → Control (with_reader ph (with_counts counts (with_position position (with_values values s)))) L pc pt
   reader-control counts position values ph ok =
       record {
         links = v.links;
@@ -96,7 +96,7 @@ module _ {s : State} {L : ℕ → ℕ} {pc pt : ℕ} (v : Control s L pc pt) whe
 
   -- the same phase of the reader
   pub unread-control : (counts : Counts) (position : ℕ) (values : List ℕ) → Control (with_counts counts (with_position position (with_values values s))) L pc pt
-  unread-control counts position values = reader-control counts position values s.reader.phase v.reader
+  unread-control counts position values = reader-control counts position values s.reader v.reader
 
   module _ (deep : 1 ≤ s.depth) where
     pub top_below : top_at s < length s.stack

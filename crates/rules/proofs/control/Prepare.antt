@@ -15,7 +15,7 @@ use Rattle.rules.proofs.control.Phase.{owner-in, newest-off}
 use Rattle.rules.proofs.order.Places.{place-off}
 use Rattle.rules.proofs.order.Records.{record-map, owners-word}
 
-module _ {s : State} {L : ℕ → ℕ} {pc pt : ℕ} (v : Control s L pc pt) (p h : ℕ) (found : s.reader.phase ≡ Found p h) where
+module _ {s : State} {L : ℕ → ℕ} {pc pt : ℕ} (v : Control s L pc pt) (p h : ℕ) (found : s.reader ≡ Found p h) where
   abbrev P : ℕ → ℕ
   P = place (R s) L
 

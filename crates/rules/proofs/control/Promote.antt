@@ -151,5 +151,5 @@ module _ {s : State} {L : ℕ → ℕ} {pc pt : ℕ} (v : Control s L pc pt) (de
               records-set (RecordOk words' s.used (N s) (S s) P pc pt) s.stack s.depth (top_at s) promoted (top_below v deep) (λ i hi ne. record-kept i hi)
               (after-ok words' s.used (N s) (S s) P pc pt own t n (subst (RecordOk words' s.used (N s) (S s) P pc pt) phase-is (record-kept (top_at s) (omega arith))));
           reader =
-              reader-map s.words words' (N s) (R s) pc pc (λ h. h) (λ h. reflagged.other (R s) (λ q. n≢R (sym q))) reflagged.next s.reader.phase v.reader;
+              reader-map s.words words' (N s) (R s) pc pc (λ h. h) (λ h. reflagged.other (R s) (λ q. n≢R (sym q))) reflagged.next s.reader v.reader;
         }

@@ -19,7 +19,7 @@ use Rattle.rules.proofs.order.Places.{place-once, place-off, last-next, place-sw
 use Rattle.rules.proofs.order.Records.{record-map, owners-word}
 use Rattle.rules.proofs.order.Swap.{swap-links}
 
-module _ {s : State} {L : ℕ → ℕ} {pc pt : ℕ} (v : Control s L pc pt) (p h : ℕ) (ready : s.reader.phase ≡ Ready p h) (word-is : get_or s.words p 0 ≡ 4 * h + 1) where
+module _ {s : State} {L : ℕ → ℕ} {pc pt : ℕ} (v : Control s L pc pt) (p h : ℕ) (ready : s.reader ≡ Ready p h) (word-is : get_or s.words p 0 ≡ 4 * h + 1) where
   abbrev P : ℕ → ℕ
   P = place (R s) L
 

@@ -8,6 +8,7 @@ use mathlib.Core.Bool.{true}
 use Prim.Native.Nat.{ℕ}
 use native.Mathlib.Omega.{arith}
 use lib.Dec.{eqb, ltb}
+use Rattle.std.specs.Prelude.{Option, Some, None}
 use Rattle.rules.specs.Limits.{most_depth, most_count, header_flag}
 use Rattle.rules.specs.State.{size_of, State}
 use Rattle.rules.specs.Words.{reader_on_commit, links, find_header}
@@ -17,12 +18,11 @@ use Rattle.rules.specs.Read.{read_limit, find_by, plan_reader, plan_read, fetche
 use Rattle.rules.specs.Act.{act}
 use Rattle.rules.specs.Listed.{listed, AsListed, SetUpAsListed, Demand1}
 use Rattle.rules.specs.Demand.{Sound}
+use Rattle.rules.specs.declared.state.PageNo.{PageNo}
 use Rattle.rules.specs.declared.state.ReaderPhase.{ReaderPhase}
 use Rattle.rules.specs.declared.state.ReaderPhase.TheVariants as reading
 use Rattle.rules.specs.declared.state.Action.{Action}
 use Rattle.rules.specs.declared.state.Action.TheVariants as action
-use Rattle.rules.specs.declared.moves.Search.{Search}
-use Rattle.rules.specs.declared.moves.Search.TheVariants as found
 use Rattle.rules.specs.declared.moves.Move.{Move}
 use Rattle.rules.specs.declared.moves.Fetch.{Fetch}
 use Rattle.rules.proofs.Lists.{by_bool, by_cond}
@@ -59,9 +59,9 @@ module _ (s : State) where
   abbrev FetchUnrefused : Fetch → Type 0
   FetchUnrefused f = (fetched f s).tells.refusal ≡ 0
 
-  found-unrefused : (found : Search) → FetchUnrefused (find_by found)
-  found-unrefused (found.At p h) = refl
-  found-unrefused found.Nowhere = refl
+  found-unrefused : (found : Option (PageNo × PageNo)) → FetchUnrefused (find_by found)
+  found-unrefused (Some (p, h)) = refl
+  found-unrefused None = refl
 
   reader-unrefused : (ph : ReaderPhase) → FetchUnrefused (plan_reader ph s.size s.places s.words s.used)
   reader-unrefused reading.Idle =
@@ -72,7 +72,7 @@ module _ (s : State) where
   reader-unrefused (reading.Ready p h) = by_cond FetchUnrefused (links s.words p h header_flag) (λ e. refl) (λ e. refl)
 
   read-not-refused : (fetched (plan_read s) s).tells.refusal ≡ 0
-  read-not-refused = reader-unrefused s.reader.phase
+  read-not-refused = reader-unrefused s.reader
 
 -- ---- an action, a receipt and a set-up, of any state
 

@@ -129,7 +129,7 @@ module _ {s : State} {h : History} {L : ℕ → ℕ} {pc pt a r0 gap : ℕ} (v :
   unfolding layout_fits
   layout =
       every-each (layout_tests s.size s.places s.reader s.stack s.depth s.words s.used)
-      (size-fits, (places-fit, (phase-fits s.reader.phase v.reader, (stack-fits, (all_words, (used-fit, tt))))))
+      (size-fits, (places-fit, (phase-fits s.reader v.reader, (stack-fits, (all_words, (used-fit, tt))))))
 
   pub invariant-in_shape : in_shape s ≡ true
   unfolding in_shape

@@ -7,6 +7,7 @@ use Prim.Native.Nat.{ℕ, zero, suc, ◌+◌, ◌*◌, ◌≤◌, ◌<◌}
 use native.Mathlib.Omega.{arith}
 use borrow.Author.Tests.{ltb-false, eqb-true}
 use lib.Dec.{ltb}
+use Rattle.std.specs.Prelude.{Option, Some, None}
 use Rattle.rules.specs.Limits.{header_flag, most_in_row}
 use Rattle.rules.specs.State.{State}
 use Rattle.rules.specs.Answers.{Outcome}
@@ -15,13 +16,11 @@ use Rattle.rules.specs.Read.{read_limit, find_by, fetched, read_rule}
 use Rattle.rules.specs.Receipt.{waiting}
 use Rattle.rules.specs.Drain.{DrainKind, event, ending, quiet, drain_kind, DrainOutcome, drain_ends, by_kind, drain_reads}
 use Rattle.rules.specs.Emptied.{Emptied, Empties}
+use Rattle.rules.specs.declared.state.Answer.{Answer}
+use Rattle.rules.specs.declared.state.PageNo.{PageNo}
 use Rattle.rules.specs.declared.state.ReaderPhase.{ReaderPhase}
 use Rattle.rules.specs.declared.state.ReaderPhase.TheVariants as reading
 use Rattle.rules.specs.declared.state.Answer.TheVariants.{Empty}
-use Rattle.rules.specs.declared.state.Last.{Last}
-use Rattle.rules.specs.declared.state.Last.TheVariants.{None, Given}
-use Rattle.rules.specs.declared.moves.Search.{Search}
-use Rattle.rules.specs.declared.moves.Search.TheVariants as found
 use Rattle.rules.specs.declared.moves.Fetch.{Fetch}
 use Rattle.rules.specs.declared.moves.Fetch.TheVariants as fetch
 use Rattle.rules.proofs.Lists.{by_cond, by-eq}
@@ -71,9 +70,9 @@ module _ (s : State) (g : RingOk s) (none : s.depth ≡ 0) where
   empty_left : read_limit s.places s.used ≤ s.places.position → reader_on_commit s.places ≡ true → After fetch.Empty
   empty_left past on z = record { left = (refl, emptied past on, emptied past on); none = none }
 
-  find-left : (r : Search) → Tells s.words (N s) (R s) r → After (find_by r)
-  find-left (found.At p h) k z = record { left = refl; none = none }
-  find-left found.Nowhere k z =
+  find-left : (r : Option (PageNo × PageNo)) → Tells s.words (N s) (R s) r → After (find_by r)
+  find-left (Some (p, h)) k z = record { left = refl; none = none }
+  find-left None k z =
       let v = g.all.control in
       let c = v.links.cycle in
       let newest : ℕ = place (R s) g.all.L (N s) in
@@ -95,7 +94,7 @@ module _ (s : State) (g : RingOk s) (none : s.depth ≡ 0) where
 
   read-leaves : ReadLeaves s (read_rule s)
   read-leaves =
-      subst (λ (o : Outcome). RingOk o.state → ReadLeaves s o) (sym (read_is s g s.reader.phase refl)) (by-phase-left s.reader.phase) (ok_read s g)
+      subst (λ (o : Outcome). RingOk o.state → ReadLeaves s o) (sym (read_is s g s.reader refl)) (by-phase-left s.reader) (ok_read s g)
 
 -- ---- Reads in a row, and the drain
 
@@ -104,16 +103,16 @@ nothing_left : (s : State) → RingOk s → s.depth ≡ 0 → waiting s.counts �
 nothing_left s g none z = omega (arith, (in-shape s (ok-shape s g)).handed_overwritten, g.all.none_open none)
 
 -- `later` hands out all that waits, of fewer readings than the space that is left
-module _ (space : ℕ) (later : State → Last → DrainOutcome)
-    (empties : (s : State) → RingOk s → s.depth ≡ 0 → waiting s.counts < space → (last : Last) → Emptied s (later s last)) where
+module _ (space : ℕ) (later : State → Option Answer → DrainOutcome)
+    (empties : (s : State) → RingOk s → s.depth ≡ 0 → waiting s.counts < space → (last : Option Answer) → Emptied s (later s last)) where
   -- after a Read that is not quiet
   by-kind : (s : State) (o : Outcome) → RingOk o.state → o.state.depth ≡ 0 → waiting s.counts < suc space → (on : DrainOutcome) → (kind : DrainKind)
-      → Left s o kind → (kind ≡ quiet → ⊥) → Emptied s (by_kind kind (later o.state (Given o.answer)) (drain_ends o.state (Given o.answer)) on)
+      → Left s o kind → (kind ≡ quiet → ⊥) → Emptied s (by_kind kind (later o.state (Some o.answer)) (drain_ends o.state (Some o.answer)) on)
   by-kind s o g none lt on (event e) left loud =
-      let rest = empties o.state g none (omega arith) (Given o.answer) in
+      let rest = empties o.state g none (omega arith) (Some o.answer) in
       record { last = rest.last; events = omega (arith, rest.events); all = rest.all }
   by-kind s o g none lt on ending left loud =
-      record { last = ap Given left.0; events = omega (arith, left.1); all = nothing_left o.state g none left.2 }
+      record { last = ap Some left.0; events = omega (arith, left.1); all = nothing_left o.state g none left.2 }
   by-kind s o g none lt on quiet left loud = absurd (loud refl)
 
   in_row : {k : ℕ} (s : State) (o : Outcome) → ReadLeaves s o → RingOk o.state → waiting s.counts < suc space → Soon k o → (n : ℕ) → k ≤ n
@@ -126,7 +125,7 @@ module _ (space : ℕ) (later : State → Last → DrainOutcome)
       rw q (record { last = t.last; events = t.events ∙ sym same; all = t.all })
 
 -- a row is its first Read and at most seven more
-drain-empties : (space : ℕ) (s : State) → RingOk s → s.depth ≡ 0 → waiting s.counts < space → (last : Last) → Emptied s (drain_reads most_in_row space s last)
+drain-empties : (space : ℕ) (s : State) → RingOk s → s.depth ≡ 0 → waiting s.counts < space → (last : Option Answer) → Emptied s (drain_reads most_in_row space s last)
 drain-empties zero s g none lt last = absurd (omega arith)
 drain-empties (suc space) s g none lt last =
     in_row space (drain_reads most_in_row space) (drain-empties space) s (read_rule s) (read-leaves s g none) (ok_read s g) lt (within-six s g) 7 (omega arith)

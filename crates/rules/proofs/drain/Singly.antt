@@ -6,6 +6,7 @@ use mathlib.Core.Bool.{false, true≢false}
 use mathlib.Core.List.{List, [], ◌∷◌}
 use Prim.Native.Nat.{ℕ, zero, suc}
 use lib.ListN.{replicate}
+use Rattle.std.specs.Prelude.{Option, Some, None}
 use Rattle.rules.specs.Answers.{Outcome, gives}
 use Rattle.rules.specs.Shape.{in_shape}
 use Rattle.rules.specs.Read.{read_rule}
@@ -13,12 +14,11 @@ use Rattle.rules.specs.Replay.{state_after, answers_of, Reached}
 use Rattle.rules.specs.Limits.{most_in_row}
 use Rattle.rules.specs.Drain.{DrainKind, event, ending, quiet, drain_kind, DrainOutcome, drain_ends, by_kind, reads_in_row, drain_reads, drain_rule, events_among, last_of, Singly}
 use Rattle.rules.specs.State.{State}
+use Rattle.rules.specs.declared.state.Answer.{Answer}
 use Rattle.rules.specs.declared.state.Action.{Action}
 use Rattle.rules.specs.declared.state.Action.TheVariants.{Read}
 use Rattle.rules.specs.declared.state.Refusal.TheVariants.{Shape}
 use Rattle.rules.specs.declared.state.Answer.TheVariants as answer
-use Rattle.rules.specs.declared.state.Last.{Last}
-use Rattle.rules.specs.declared.state.Last.TheVariants.{None, Given}
 use Rattle.rules.proofs.Lists.{by_bool}
 use Rattle.rules.proofs.runs.Reached.{reached-more}
 
@@ -26,22 +26,22 @@ abbrev reads : ℕ → List Action
 reads k = replicate k Read
 
 -- so many Reads from a ring, after a last answer, leave this
-record From (r : State) (last : Last) (d : DrainOutcome) : Type 0 where
+record From (r : State) (last : Option Answer) (d : DrainOutcome) : Type 0 where
   pub count : ℕ
   pub state : d.state ≡ state_after r (reads count)
   pub events : d.events ≡ events_among (answers_of r (reads count))
   pub last_is : d.last ≡ last_of last (answers_of r (reads count))
 
-none_made : (r : State) (last : Last) → From r last (drain_ends r last)
+none_made : (r : State) (last : Option Answer) → From r last (drain_ends r last)
 none_made r last = record { count = 0; state = refl; events = refl; last_is = refl }
 
 -- one Read, by the kind of its answer, and what comes after it
-module _ (r : State) (last : Last) where
+module _ (r : State) (last : Option Answer) where
   abbrev then : State
   then = (read_rule r).state
 
-  abbrev told : Last
-  told = Given (read_rule r).answer
+  abbrev told : Option Answer
+  told = Some (read_rule r).answer
 
   one-made :
       (k : DrainKind) → drain_kind (read_rule r).answer ≡ k → (later on : DrainOutcome) → From then told later → From then told on →
@@ -56,14 +56,14 @@ module _ (r : State) (last : Last) where
   one-made ending q later on a b = record { count = 1; state = refl; events = rw q; last_is = refl }
   one-made quiet q later on a b = record { count = suc b.count; state = b.state; events = rw q b.events; last_is = b.last_is }
 
-in-row-made : (later : State → Last → DrainOutcome) → ((r : State) (last : Last) → From r last (later r last)) → (left : ℕ) (r : State) (last : Last) → From r last (reads_in_row later left r last)
+in-row-made : (later : State → Option Answer → DrainOutcome) → ((r : State) (last : Option Answer) → From r last (later r last)) → (left : ℕ) (r : State) (last : Option Answer) → From r last (reads_in_row later left r last)
 in-row-made later made zero r last = none_made r last
 in-row-made later made (suc left) r last =
     one-made r last (drain_kind (read_rule r).answer) refl (later (then r last) (told r last)) (reads_in_row later left (then r last) (told r last))
     (made (then r last) (told r last))
     (in-row-made later made left (then r last) (told r last))
 
-reads_made : (most space : ℕ) (r : State) (last : Last) → From r last (drain_reads most space r last)
+reads_made : (most space : ℕ) (r : State) (last : Option Answer) → From r last (drain_reads most space r last)
 reads_made most zero r last = none_made r last
 reads_made most (suc space) r last = in-row-made (drain_reads most space) (reads_made most space) most r last
 
@@ -71,13 +71,13 @@ reads_made most (suc space) r last = in-row-made (drain_reads most space) (reads
 refused : (r : State) → in_shape r ≡ false → gives (answer.Refused Shape) r ≡ read_rule r
 refused r e = rw e
 
-refused-made : (r : State) → in_shape r ≡ false → From r None (drain_ends r (Given (answer.Refused Shape)))
+refused-made : (r : State) → in_shape r ≡ false → From r None (drain_ends r (Some (answer.Refused Shape)))
 refused-made r e =
     record {
       count = 1;
       state = ap (λ (o : Outcome). o.state) (refused r e);
       events = ap (λ (o : Outcome). events_among (o.answer ∷ [])) (refused r e);
-      last_is = ap (λ (o : Outcome). Given o.answer) (refused r e);
+      last_is = ap (λ (o : Outcome). Some o.answer) (refused r e);
     }
 
 singly : {r : State} {d : DrainOutcome} (m : From r None d) → (in_shape r ≡ false → m.count ≡ 1) → Singly r d

@@ -188,7 +188,7 @@ pub record Accounts (s : State) (h : History) (L : ℕ → ℕ) (pc pt a r0 gap 
   pub sums : Sums (S s) (used_of s (R s)) (used_of s (T s)) (used_of s (C s)) s.places.index s.places.position s.counts.taken s.counts.committed
       s.counts.handed s.counts.overwritten pc pt a r0 gap
   pub values : Values s.numbers s.values s.used (N s) (S s) s.stack s.depth (place (R s) L) pc pt s.counts.committed h.readings
-  pub quiet : Quiet s.reader.phase s.places.position (used_of s (R s))
+  pub quiet : Quiet s.reader s.places.position (used_of s (R s))
   pub recorded : Recorded h.events h.overwritings h.readings s.counts.taken s.counts.committed s.counts.handed s.counts.overwritten r0
       s.places.position (used_of s (R s)) gap
   pub work : AtWork h.marker s.stack s.depth h.working

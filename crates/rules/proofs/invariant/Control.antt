@@ -149,7 +149,7 @@ abbrev pub OrderIn : State → (ℕ → ℕ) → ℕ → ℕ → Type 0
 OrderIn s L pc pt = Order s.used (N s) (S s) (T s) (C s) (place (R s) L) pc pt
 
 abbrev pub ReaderIn : State → ℕ → Type 0
-ReaderIn s pc = ReaderOk s.words (N s) (R s) pc s.reader.phase
+ReaderIn s pc = ReaderOk s.words (N s) (R s) pc s.reader
 
 pub record Control (s : State) (L : ℕ → ℕ) (pc pt : ℕ) : Type 0 where
   pub links : Links s.words (N s) (R s) L

@@ -8,33 +8,32 @@ use Prim.Native.Nat.{ℕ, zero, suc, ◌+◌, ◌≤◌, ◌<◌}
 use native.Mathlib.Omega.{arith}
 use borrow.Author.Tests.{eqb-true, eqb-false, not-true, eq-eqb, ne_eqb}
 use lib.Dec.{eqb}
-use Rattle.rules.specs.Lists.{Least, none, at, or_at, least}
+use Rattle.std.specs.Prelude.{Option, Some, None}
+use Rattle.rules.specs.Lists.{or_at, least}
 use Rattle.rules.specs.State.{page}
 use Rattle.rules.specs.Words.{same_page, heads, found_at, find_header}
 use Rattle.rules.specs.declared.state.PageNo.{PageNo}
-use Rattle.rules.specs.declared.moves.Search.{Search}
-use Rattle.rules.specs.declared.moves.Search.TheVariants as found
 use Rattle.rules.proofs.Lists.{by-eq, and_left, and_right}
 use Rattle.rules.proofs.invariant.Order.{next_of, flag_of}
 
 -- a number below k that passes, or that none does
-abbrev LeastIs : (ℕ → Bool) → ℕ → Least → Type 0
-LeastIs f k none = (i : ℕ) → i < k → f i ≡ false
-LeastIs f k (at p) = (p < k) × (f p ≡ true)
+abbrev LeastIs : (ℕ → Bool) → ℕ → Option ℕ → Type 0
+LeastIs f k None = (i : ℕ) → i < k → f i ≡ false
+LeastIs f k (Some p) = (p < k) × (f p ≡ true)
 
 least-is : (f : ℕ → Bool) (k : ℕ) → LeastIs f k (least k f)
 least-is f zero = λ i h. absurd (omega arith)
 least-is f (suc k) = go (least k f) (least-is f k) (f k) refl
   where
-    go : (l : Least) → LeastIs f k l → (b : Bool) → f k ≡ b → LeastIs f (suc k) (or_at l b k)
-    go (at p) h b e = (omega arith, h.1)
-    go none h true e = (omega arith, e)
-    go none h false e = λ i l. by-eq i k (λ q. rw q e) (λ n. h i (omega arith))
+    go : (l : Option ℕ) → LeastIs f k l → (b : Bool) → f k ≡ b → LeastIs f (suc k) (or_at l b k)
+    go (Some p) h b e = (omega arith, h.1)
+    go None h true e = (omega arith, e)
+    go None h false e = λ i l. by-eq i k (λ q. rw q e) (λ n. h i (omega arith))
 
 -- what is told of a page found, and where none is
-abbrev pub Tells : List ℕ → ℕ → ℕ → Search → Type 0
-Tells words N R (found.At p h) = (p.0 ≤ N) × (p.0 ≢ R) × (flag_of words p.0 ≡ 1) × (h.0 ≡ next_of words p.0)
-Tells words N R found.Nowhere = (p : ℕ) → p ≤ N → p ≢ R → flag_of words p ≢ 1
+abbrev pub Tells : List ℕ → ℕ → ℕ → Option (PageNo × PageNo) → Type 0
+Tells words N R (Some (p, h)) = (p.0 ≤ N) × (p.0 ≢ R) × (flag_of words p.0 ≡ 1) × (h.0 ≡ next_of words p.0)
+Tells words N R None = (p : ℕ) → p ≤ N → p ≢ R → flag_of words p ≢ 1
 
 -- a page that the search stops at is not the reader page
 heads-off : (words : List ℕ) (reader : PageNo) (p : ℕ) → heads words reader p ≡ true → p ≢ reader.0
@@ -49,7 +48,7 @@ heads-false words reader p h n f = true≢false (sym (rw (ne_eqb p reader.0 n, e
 pub search-tells : (words : List ℕ) (n : ℕ) (reader : PageNo) → Tells words n reader.0 (find_header words n reader)
 search-tells words n reader = go (least (n + 1) (heads words reader)) (least-is (heads words reader) (n + 1))
   where
-    go : (l : Least) → LeastIs (heads words reader) (n + 1) l → Tells words n reader.0 (found_at words l)
-    go none h = λ p hp. heads-false words reader p (h p (omega arith))
-    go (at p) h =
+    go : (l : Option ℕ) → LeastIs (heads words reader) (n + 1) l → Tells words n reader.0 (found_at words l)
+    go None h = λ p hp. heads-false words reader p (h p (omega arith))
+    go (Some p) h =
         (omega arith, heads-off words reader p h.1, heads-marked words reader p h.1, refl)

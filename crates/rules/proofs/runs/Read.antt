@@ -7,16 +7,16 @@ use native.Mathlib.Omega.{arith}
 use borrow.Author.Tests.{ltb-true, ltb-false, eqb-true, eqb-false}
 use lib.Dec.{ltb}
 use lib.ListN.{get_or}
+use Rattle.std.specs.Prelude.{Option, Some, None}
 use Rattle.rules.specs.Limits.{header_flag}
 use Rattle.rules.specs.State.{page, State}
 use Rattle.rules.specs.Words.{reader_on_commit, links, find_header}
 use Rattle.rules.specs.Shape.{in_shape}
 use Rattle.rules.specs.Read.{read_limit, find_by, plan_idle, plan_ready, plan_reader, fetched, read_rule}
 use Rattle.rules.specs.Remember.{History}
+use Rattle.rules.specs.declared.state.PageNo.{PageNo}
 use Rattle.rules.specs.declared.state.ReaderPhase.{ReaderPhase}
 use Rattle.rules.specs.declared.state.ReaderPhase.TheVariants as reading
-use Rattle.rules.specs.declared.moves.Search.{Search}
-use Rattle.rules.specs.declared.moves.Search.TheVariants as found
 use Rattle.rules.specs.declared.moves.Fetch.{Fetch}
 use Rattle.rules.specs.declared.moves.Fetch.TheVariants as fetch
 use Rattle.rules.proofs.Lists.{by_bool, by_cond}
@@ -67,11 +67,11 @@ module _ (x : ℕ) (s : State) (h : History) (g : Invariant s h) where
 
   -- ---- IDLE
 
-  event-next : s.reader.phase ≡ reading.Idle → s.places.position < read_limit s.places s.used → After fetch.Event
+  event-next : s.reader ≡ reading.Idle → s.places.position < read_limit s.places s.used → After fetch.Event
   event-next q l = holds_same g (handed-control v) (event-accounts v b q (limit-page l) (limit-commit l)) g.fates g.bounds g.none_open
 
-  find-next : C s ≢ R s → s.places.position ≡ used_of s (R s) → (r : Search) → Tells s.words (N s) (R s) r → After (find_by r)
-  find-next n q (found.At p h0) k =
+  find-next : C s ≢ R s → s.places.position ≡ used_of s (R s) → (r : Option (PageNo × PageNo)) → Tells s.words (N s) (R s) r → After (find_by r)
+  find-next n q (Some (p, h0)) k =
       let to : h0.0 ≡ next_of s.words p.0 = k.3 in
       holds_same g
       (found-control v n p.0 h0.0 k.0 k.1 k.2 to)
@@ -79,9 +79,9 @@ module _ (x : ℕ) (s : State) (h : History) (g : Invariant s h) where
       g.fates
       g.bounds
       g.none_open
-  find-next n q found.Nowhere k = g
+  find-next n q None k = g
 
-  idle-next : s.reader.phase ≡ reading.Idle → After (plan_idle s.size s.places s.words s.used)
+  idle-next : s.reader ≡ reading.Idle → After (plan_idle s.size s.places s.words s.used)
   idle-next q =
       by_cond After (ltb s.places.position (read_limit s.places s.used))
       (λ t. event-next q (ltb-true _ _ t))
@@ -94,7 +94,7 @@ module _ (x : ℕ) (s : State) (h : History) (g : Invariant s h) where
 
   -- ---- FOUND
 
-  prepare-next : (p h0 : ℕ) → s.reader.phase ≡ Found p h0 → After (fetch.Prepare (page p) (page h0))
+  prepare-next : (p h0 : ℕ) → s.reader ≡ Found p h0 → After (fetch.Prepare (page p) (page h0))
   prepare-next p h0 q =
       let whole = subst (λ (f : ReaderPhase). Quiet f s.places.position (used_of s (R s))) q b.quiet in
       holds_same g
@@ -106,7 +106,7 @@ module _ (x : ℕ) (s : State) (h : History) (g : Invariant s h) where
 
   -- ---- READY
 
-  ready-next : (p h0 : ℕ) → s.reader.phase ≡ Ready p h0 → After (plan_ready (page p) (page h0) s.words)
+  ready-next : (p h0 : ℕ) → s.reader ≡ Ready p h0 → After (plan_ready (page p) (page h0) s.words)
   ready-next p h0 q =
       by_cond After (links s.words (page p) (page h0) header_flag)
       (λ k.
@@ -121,10 +121,10 @@ module _ (x : ℕ) (s : State) (h : History) (g : Invariant s h) where
 
   -- ---- by the reader's phase
 
-  reader-next : (ph : ReaderPhase) → s.reader.phase ≡ ph → After (plan_reader ph s.size s.places s.words s.used)
+  reader-next : (ph : ReaderPhase) → s.reader ≡ ph → After (plan_reader ph s.size s.places s.words s.used)
   reader-next reading.Idle q = idle-next q
   reader-next (reading.Found p h0) q = prepare-next p.0 h0.0 q
   reader-next (reading.Ready p h0) q = ready-next p.0 h0.0 q
 
   pub read_next : Next x s h (read_rule s)
-  read_next = by_bool (in_shape s) (λ fits. rw fits (reader-next s.reader.phase refl)) (λ fits. rw fits g)
+  read_next = by_bool (in_shape s) (λ fits. rw fits (reader-next s.reader refl)) (λ fits. rw fits g)

@@ -8,6 +8,7 @@ use native.Mathlib.Omega.{arith}
 use borrow.Author.Tests.{ltb-true, ltb-false, eqb-true, eqb-false, eq-eqb}
 use lib.Dec.{eqb, ltb}
 use lib.ListN.{length, get_or, set}
+use Rattle.std.specs.Prelude.{Option, Some, None}
 use Rattle.rules.specs.Limits.{stop_mode, header_flag, update_flag}
 use Rattle.rules.specs.State.{page, no_writer, word_at, used_at, top, set_phase, pop, State}
 use Rattle.rules.specs.Words.{page_in, flag_in, same_page, reader_on_commit, links}
@@ -20,8 +21,6 @@ use Rattle.rules.specs.declared.state.WriterPhase.{WriterPhase}
 use Rattle.rules.specs.declared.state.WriterPhase.TheVariants as phase
 use Rattle.rules.specs.declared.state.Writer.{Writer}
 use Rattle.rules.specs.declared.state.Answer.TheVariants as answer
-use Rattle.rules.specs.declared.moves.Search.{Search}
-use Rattle.rules.specs.declared.moves.Search.TheVariants as found
 use Rattle.rules.specs.declared.moves.Move.{Move}
 use Rattle.rules.specs.declared.moves.Move.TheVariants as move
 use Rattle.rules.proofs.Lists.{by_bool, by-eq, by_cond, and-false, or-false}
@@ -223,11 +222,11 @@ module _ (x : ℕ) {s : State} {h : History} (g : Invariant s h) (deep : 1 ≤ s
     after-bounds : BoundsOf (set_phase then s)
     after-bounds = phase-bounds then (aim-after (N s) own t n)
 
-    promote-by : (r : Search) → Tells s.words (N s) (R s) r → After (promote_by r (page n) then)
-    promote-by (found.At p q) k =
+    promote-by : (r : Option (PageNo × PageNo)) → Tells s.words (N s) (R s) r → After (promote_by r (page n) then)
+    promote-by (Some (p, q)) k =
         holds_same g (standing-control v deep t n own phase-is (head_of v.flags p.0 k.0 k.1 k.2)) after-accounts after-fates after-bounds
         g.none_open
-    promote-by found.Nowhere k =
+    promote-by None k =
         holds_same g
         (promoted-control v deep t n own phase-is k)
         (words-accounts after-accounts _)

@@ -36,7 +36,7 @@ pub record InShape (r : State) : Type 0 where
   pub handed_overwritten : r.counts.handed + r.counts.overwritten ≤ r.counts.committed
   pub committed_taken : r.counts.committed ≤ r.counts.taken
   pub taken_dropped : r.counts.taken + r.counts.dropped ≤ r.counts.begun
-  pub phase : reader_fits r.reader.phase r.size ≡ true
+  pub phase : reader_fits r.reader r.size ≡ true
   pub depth : r.depth ≤ most_depth
   pub record_at : (i : ℕ) → i < r.depth → record_fits_at r.stack r.size i ≡ true
   pub word_at : (p : ℕ) → p ≤ r.size.pages → word_fits_at r.words r.size.pages p ≡ true

@@ -3,6 +3,7 @@
 use mathlib.Core.Bool.{◌&&◌, ◌||◌}
 use Prim.Native.Nat.{ℕ}
 use lib.Dec.{eqb, ltb}
+use Rattle.std.specs.Prelude.{Option, Some, None}
 use Rattle.rules.specs.Limits.{stop_mode, header_flag, update_flag}
 use Rattle.rules.specs.State.{word_at, used_at, top, State}
 use Rattle.rules.specs.Words.{page_in, flag_in, same_page, reader_on_commit, links}
@@ -11,8 +12,6 @@ use Rattle.rules.specs.declared.state.PageNo.{PageNo}
 use Rattle.rules.specs.declared.state.WriterPhase.{WriterPhase}
 use Rattle.rules.specs.declared.state.WriterPhase.TheVariants as phase
 use Rattle.rules.specs.declared.state.Answer.TheVariants as answer
-use Rattle.rules.specs.declared.moves.Search.{Search}
-use Rattle.rules.specs.declared.moves.Search.TheVariants as found
 use Rattle.rules.specs.declared.moves.Move.{Move}
 use Rattle.rules.specs.declared.moves.Move.TheVariants as move
 use Rattle.rules.proofs.Lists.{by_cond}
@@ -42,9 +41,9 @@ module _ (P : Move → Type 0) (s : State) (m : Moves P s.depth) where
       by_cond P (eqb flag header_flag && eqb s.size.mode stop_mode) (λ e. search (m.looked, m.drop)) (λ e.
       by_cond P (eqb flag header_flag || eqb flag update_flag) (λ e. search (m.looked, m.drop)) (λ e. search (m.looked, m.drop))))))
 
-  promoted : (found : Search) (n : PageNo) (next : WriterPhase) → P (promote_by found n next)
-  promoted (found.At p h) n next = m.standing next
-  promoted found.Nowhere n next = m.promote n next
+  promoted : (found : Option (PageNo × PageNo)) (n : PageNo) (next : WriterPhase) → P (promote_by found n next)
+  promoted (Some (p, h)) n next = m.standing next
+  promoted None n next = m.promote n next
 
   by-phase : (ph : WriterPhase) → P (plan_phase ph s.size s.places s.depth s.words s.used)
   by-phase phase.Want =
