@@ -9,7 +9,8 @@ use native.Mathlib.Omega.{arith}
 use native.Mathlib.Numerals.{add-one}
 use lib.ListN.{length, set}
 use lib.Seq.{sets}
-use Rattle.rules.specs.Lists.{all_below, none, at, least}
+use Rattle.std.specs.Prelude.{Some, None}
+use Rattle.rules.specs.Lists.{all_below, least}
 use Rattle.rules.proofs.Lists.{least-is}
 
 -- A loop that tests one number after the other: `ok` is the test of those below i. A record, so that f and i are found from it.
@@ -27,7 +28,7 @@ tested-end m h e = rw (← e) h.is
 
 -- A loop that looks for a number: none of those below i passes. A record, for the same reason.
 pub record Unseen (f : ℕ → Bool) (i : ℕ) : Type 0 where
-  pub is : least i f ≡ none
+  pub is : least i f ≡ None
 
 pub unseen-none : {f : ℕ → Bool} → Unseen f 0
 unseen-none = record { is = refl }
@@ -35,10 +36,10 @@ unseen-none = record { is = refl }
 pub unseen-more : {f : ℕ → Bool} {i : ℕ} → Unseen f i → f i ≡ false → Unseen f (i + 1)
 unseen-more h e = record { is = rw (add-one, h.is, e) }
 
-pub unseen-seen : {f : ℕ → Bool} {i : ℕ} (m : ℕ) → Unseen f i → i < m → f i ≡ true → least m f ≡ at i
+pub unseen-seen : {f : ℕ → Bool} {i : ℕ} (m : ℕ) → Unseen f i → i < m → f i ≡ true → least m f ≡ Some i
 unseen-seen {f} {i} m h l e = least-is f m i l h.is e
 
-pub unseen-end : {f : ℕ → Bool} {i : ℕ} (m : ℕ) → Unseen f i → i ≡ m → least m f ≡ none
+pub unseen-end : {f : ℕ → Bool} {i : ℕ} (m : ℕ) → Unseen f i → i ≡ m → least m f ≡ None
 unseen-end m h e = rw (← e) h.is
 
 -- a run of stores, and one more

@@ -2,7 +2,7 @@
 -- `read` or `act` is one action; a call of a drain is so many Reads. What the functions may return is a parameter here, `Promises`:
 -- proofs/demand/Promises puts in what the checker proves of them.
 -- Assumes nothing.
-use Rattle.std.specs.Prelude.{◌≡◌, List, [], ◌∷◌, ◌++◌, ℕ, length, replicate}
+use Rattle.std.specs.Prelude.{◌≡◌, List, [], ◌∷◌, ◌++◌, ℕ, length, replicate, Option, None}
 use Rattle.std.specs.Borrow.{Bor, MutBor}
 use Rattle.rules.specs.Answers.{told}
 use Rattle.rules.specs.Replay.{over}
@@ -10,8 +10,6 @@ use Rattle.rules.specs.Drain.{told_last, events_among, last_of}
 use Rattle.rules.specs.declared.state.Action.{Action}
 use Rattle.rules.specs.declared.state.Action.TheVariants as action
 use Rattle.rules.specs.declared.state.Answer.{Answer}
-use Rattle.rules.specs.declared.state.Last.{Last}
-use Rattle.rules.specs.declared.state.Last.TheVariants.{None}
 use Rattle.rules.specs.declared.state.Receipt.{Receipt}
 use Rattle.ring.specs.declared.state.Ring.{Ring}
 use Rattle.ring.specs.declared.state.Step.{Step}
@@ -96,7 +94,7 @@ refusal_in (drain buffer d) = (told_last d.last).refusal
 -- ---- what a call gave back, in single actions
 
 -- a drain's last answer is theirs, and they are Reads
-pub record ReadsTold (l : List Single) (last : Last) : Type 0 where
+pub record ReadsTold (l : List Single) (last : Option Answer) : Type 0 where
   pub reads : ℕ
   pub all : asked l ≡ replicate reads action.Read
   pub last_answer : last ≡ last_of None (answered l)

@@ -15,7 +15,6 @@ use Rattle.rules.specs.declared.state.Places.{Places}
 use Rattle.rules.specs.declared.state.Counts.{Counts}
 use Rattle.rules.specs.declared.state.WriterPhase.TheVariants.{Want}
 use Rattle.rules.specs.declared.state.Writer.{Writer}
-use Rattle.rules.specs.declared.state.Reader.{Reader}
 use Rattle.rules.specs.declared.state.Answer.{Answer}
 use Rattle.rules.specs.declared.moves.Move.{Move}
 use Rattle.rules.specs.declared.moves.Move.TheVariants.{Become, Reserve, Drop, DropCommit, Mark, Promote, Clear, Push, Fill, Pend, Commit}
@@ -23,6 +22,7 @@ use Rattle.rules.specs.declared.moves.Fetch.{Fetch}
 use Rattle.rules.specs.declared.moves.Fetch.TheVariants as fetch
 use Rattle.ring.specs.declared.pieces.Stores.{Stores}
 use Rattle.ring.specs.declared.pieces.Stores.TheVariants as stores
+use Rattle.rules.specs.declared.state.ReaderPhase.{ReaderPhase}
 
 -- a ring of zeros; no piece below depends on its size
 abbrev pub empty : State
@@ -73,7 +73,7 @@ read_handed f handed = (fetched f (with_handed handed empty)).state.counts.hande
 abbrev pub read_places : Fetch → Places → Places
 read_places f places = (fetched f (with_places places empty)).state.places
 
-abbrev pub read_phase : Fetch → Reader → Reader
+abbrev pub read_phase : Fetch → ReaderPhase → ReaderPhase
 read_phase f reader = (fetched f (with_reader reader empty)).state.reader
 
 -- the cells that the rule stores to; `reader` is the reader page

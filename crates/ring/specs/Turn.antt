@@ -2,25 +2,24 @@
 -- page are made together, and a Read of another kind by itself. That storing the pieces makes these Reads is `turn-drains`
 -- (proofs/turn/Laws), for a ring in shape.
 -- Assumes nothing.
-use Rattle.std.specs.Prelude.{◌≡◌, Bool, true, cond, List, ℕ, ◌+◌, ◌-◌, ◌≤◌, ◌<◌, ltb, get_or}
+use Rattle.std.specs.Prelude.{◌≡◌, Bool, true, cond, List, ℕ, ◌+◌, ◌-◌, ◌≤◌, ◌<◌, ltb, get_or, Option, Some}
 use Rattle.rules.specs.Limits.{most_pages, most_slots, most_count, most_in_row}
 use Rattle.rules.specs.Lists.{tabulate}
-use Rattle.rules.specs.State.{reading, places_position, with_places, with_handed, with_reader, with_words, with_used, slot_index, State}
+use Rattle.rules.specs.State.{reading, places_position, with_places, with_handed, with_reader, slot_index, State}
 use Rattle.rules.specs.Shape.{reader_fits}
 use Rattle.rules.specs.Read.{read_limit, plan_reader}
 use Rattle.rules.specs.Drain.{event_number}
-use Rattle.ring.specs.Pieces.{read_answer, read_places, read_phase, read_stores, words_stored, used_stored, FetchPrecondition, EventPrecondition}
+use Rattle.ring.specs.Pieces.{read_answer, read_places, read_phase, read_stores, stored, FetchPrecondition, EventPrecondition}
 use Rattle.rules.specs.declared.state.Size.{Size}
 use Rattle.rules.specs.declared.state.Places.{Places}
 use Rattle.rules.specs.declared.state.Counts.{Counts}
-use Rattle.rules.specs.declared.state.Reader.{Reader}
 use Rattle.rules.specs.declared.state.Refusal.TheVariants.{Shape}
 use Rattle.rules.specs.declared.state.Answer.TheVariants as answer
-use Rattle.rules.specs.declared.state.Last.{Last}
-use Rattle.rules.specs.declared.state.Last.TheVariants.{Given}
 use Rattle.rules.specs.declared.moves.Fetch.{Fetch}
 use Rattle.rules.specs.declared.moves.Fetch.TheVariants.{Event, Empty, Busy, Find, Prepare, Swap, Miss}
 use Rattle.ring.specs.declared.turn.Turn.{Turn}
+use Rattle.rules.specs.declared.state.ReaderPhase.{ReaderPhase}
+use Rattle.rules.specs.declared.state.Answer.{Answer}
 
 -- ---- Events that stand one after the other
 
@@ -63,12 +62,12 @@ left_after Miss left = left - 1
 
 -- ---- the turn
 
-abbrev pub turn : Fetch → ℕ → ℕ → Size → Places → Counts → Reader → List ℕ → List ℕ → List ℕ → Turn
+abbrev pub turn : Fetch → ℕ → ℕ → Size → Places → Counts → ReaderPhase → List ℕ → List ℕ → List ℕ → Turn
 turn f count left size places counts reader words numbers values =
     record {
       count = count;
       from = slot_index size places.reader places.position;
-      last = Given (read_answer f size (places_before places count) numbers values);
+      last = Some (read_answer f size (places_before places count) numbers values);
       left = left_after f left;
       handed = counts.handed + count;
       places = read_places f (places_before places count);
@@ -76,24 +75,23 @@ turn f count left size places counts reader words numbers values =
       stores = read_stores f places.reader words;
     }
 
-abbrev pub turn_by : ℕ → ℕ → Size → Places → Counts → Reader → List ℕ → List ℕ → List ℕ → List ℕ → Turn
+abbrev pub turn_by : ℕ → ℕ → Size → Places → Counts → ReaderPhase → List ℕ → List ℕ → List ℕ → List ℕ → Turn
 turn_by left space size places counts reader words used numbers values =
-    turn (plan_reader reader.phase size places words used) (event_count (plan_reader reader.phase size places words used) places counts used space)
+    turn (plan_reader reader size places words used) (event_count (plan_reader reader size places words used) places counts used space)
     left size places counts reader words numbers values
 
 abbrev pub turn_of : State → ℕ → ℕ → Turn
 turn_of r left space = turn_by left space r.size r.places r.counts r.reader r.words r.used r.numbers r.values
 
--- the pieces stored; a Read stores to words and used alone
+-- the pieces stored
 abbrev pub turned : Turn → State → State
 turned t r =
     with_reader t.reader
-    (with_places t.places
-    (with_handed t.handed (with_words (words_stored t.stores r.words) (with_used (used_stored t.stores r.used) r))))
+    (with_places t.places (with_handed t.handed (stored t.stores r)))
 
 -- the last answer where the turns end: a Read that is still due is refused, since the ring is out of shape
-abbrev pub last_after : Bool → Last → Last
-last_after due last = cond due (Given (answer.Refused Shape)) last
+abbrev pub last_after : Bool → Option Answer → Option Answer
+last_after due last = cond due (Some (answer.Refused Shape)) last
 
 -- ---- what the code asks of the pieces: a ring in shape has it (`turn-precondition`)
 
@@ -103,15 +101,15 @@ pub record CountPrecondition (f : Fetch) (places : Places) (counts : Counts) (us
   pub committed : counts.committed ≤ most_count
   pub here : f ≡ Event → places.position < read_limit places used
 
-pub record TurnPrecondition (left space : ℕ) (size : Size) (places : Places) (counts : Counts) (reader : Reader) (words used : List ℕ) : Type 0 where
+pub record TurnPrecondition (left space : ℕ) (size : Size) (places : Places) (counts : Counts) (reader : ReaderPhase) (words used : List ℕ) : Type 0 where
   pub some : 0 < left
   pub pages : size.pages ≤ most_pages
   pub page : places.reader.0 ≤ most_pages
   pub position : places.position ≤ most_slots
-  pub phase : reader_fits reader.phase size ≡ true
-  pub fetch : FetchPrecondition (plan_reader reader.phase size places words used)
-  pub events : CountPrecondition (plan_reader reader.phase size places words used) places counts used
-  pub few : places.position + event_count (plan_reader reader.phase size places words used) places counts used space ≤ most_slots
+  pub phase : reader_fits reader size ≡ true
+  pub fetch : FetchPrecondition (plan_reader reader size places words used)
+  pub events : CountPrecondition (plan_reader reader size places words used) places counts used
+  pub few : places.position + event_count (plan_reader reader size places words used) places counts used space ≤ most_slots
   pub event :
-      EventPrecondition (plan_reader reader.phase size places words used) size
-      (places_before places (event_count (plan_reader reader.phase size places words used) places counts used space))
+      EventPrecondition (plan_reader reader size places words used) size
+      (places_before places (event_count (plan_reader reader size places words used) places counts used space))

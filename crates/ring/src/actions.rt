@@ -1,16 +1,9 @@
 // Actions as bytes, one after the other: what stands at a place, and how many there are.
 ghost use Rattle.std.specs.Prelude.{◌≡◌, ◌+◌, ◌<◌, length};
-ghost use Rattle.rules.specs.Actions.{value_of, begin_at, coded_at, decoded_from};
+ghost use Rattle.rules.specs.Actions.{begin_at, coded_at, decoded_from};
 
 use rules::actions::Coded;
 use rules::state::Action;
-
-// The number in four bytes, low first.
-fn value_of(a: u8, b: u8, c: u8, d: u8) -> u32
-    ensures { result ≡ value_of a b c d }
-{
-    (a as u32) + 256 * (b as u32) + 65536 * (c as u32) + 16777216 * (d as u32)
-}
 
 // A Begin, which may be cut.
 fn begin_at(bytes: &[u8], at: usize) -> Coded
@@ -20,7 +13,7 @@ fn begin_at(bytes: &[u8], at: usize) -> Coded
     if bytes.len() - at < Action::BEGIN_LENGTH {
         return Coded::Broken;
     }
-    let value = value_of(bytes[at + 1], bytes[at + 2], bytes[at + 3], bytes[at + 4]);
+    let value = u32::from_le_bytes([bytes[at + 1], bytes[at + 2], bytes[at + 3], bytes[at + 4]]);
     Coded::Whole(Action::Begin(value), at + Action::BEGIN_LENGTH)
 }
 
@@ -31,17 +24,12 @@ pub fn action_at(bytes: &[u8], at: usize) -> Coded
     if bytes.len() <= at {
         return Coded::End;
     }
-    let code = bytes[at];
-    if code == Action::BEGIN {
-        return begin_at(bytes, at);
+    match bytes[at] {
+        Action::BEGIN => begin_at(bytes, at),
+        Action::WRITE => Coded::Whole(Action::Write, at + 1),
+        Action::READ => Coded::Whole(Action::Read, at + 1),
+        _ => Coded::Broken,
     }
-    if code == Action::WRITE {
-        return Coded::Whole(Action::Write, at + 1);
-    }
-    if code == Action::READ {
-        return Coded::Whole(Action::Read, at + 1);
-    }
-    Coded::Broken
 }
 
 // How many whole actions stand one after the other from a place on.
@@ -52,7 +40,7 @@ pub fn action_count(bytes: &[u8], from: usize) -> usize
     let mut count: usize = 0;
     while let Coded::Whole(_action, next) = action_at(bytes, at) {
         at = next;
-        count = count + 1;
+        count += 1;
     }
     count
 }

@@ -1,6 +1,6 @@
 // Drain: Reads made one after the other, and their Events laid in a buffer that is lent. The ring stays in one place, and its shape is tested
 // once: a Read can leave it only by making handed + overwritten more than committed, and that is tested at each turn.
-ghost use Rattle.std.specs.Prelude.{◌≡◌, true, ◌+◌, ◌≤◌, leb, length};
+ghost use Rattle.std.specs.Prelude.{◌≡◌, true, ◌+◌, ◌≤◌, leb, length, None};
 ghost use Rattle.std.proofs.lemmas.List.Edits.{sets};
 ghost use Rattle.rules.specs.Limits.{slot_room, most_count, most_in_row};
 ghost use Rattle.rules.specs.State.{reading};
@@ -9,13 +9,9 @@ ghost use Rattle.rules.specs.Drain.{event_number, drain_reads, drain_rule, buffe
 ghost use Rattle.ring.specs.Turn.{events_from, last_after};
 ghost use Rattle.ring.specs.Ring.{state_of};
 ghost use Rattle.ring.specs.Drain.{CountMatches};
-ghost use Rattle.rules.specs.declared.state.Last.TheVariants.{None};
 
-use crate::change::{store_used, store_words};
-use crate::shape::{counts_fit, layout_fits};
 use crate::state::{DrainCount, Ring};
-use crate::turn::turn_by;
-use rules::state::{Answer, Counts, Last, Refusal};
+use rules::state::{Answer, Counts, Refusal};
 
 const TWO_32: u64 = 4294967296;
 
@@ -24,26 +20,6 @@ fn event_number(number: u32, value: u32) -> u64
     ensures { result ≡ event_number (reading number) value }
 {
     (number as u64) * TWO_32 + (value as u64)
-}
-
-// The readings of some slots, from slot `from` on, laid in the buffer from `at` on.
-fn lay_events<'a>(
-    buffer: &mut [u64],
-    at: usize,
-    from: usize,
-    count: usize,
-    numbers: &'a [u32; 272],
-    values: &'a [u32; 272],
-)
-    requires { (at + count ≤ length buffer.old) × (from + count ≤ slot_room) }
-    ensures { buffer.new ≡ sets buffer.old at (events_from numbers.now values.now from count) }
-{
-    let mut i: usize = 0;
-    while i < count {
-        let slot = from + i;
-        buffer[at + i] = event_number(numbers[slot], values[slot]);
-        i = i + 1;
-    }
 }
 
 // Whether handed + overwritten is at most committed: the one clause of the shape that an Event can break.
@@ -55,17 +31,28 @@ fn agrees(counts: Counts) -> bool
 }
 
 // The last answer. Where a Read is still due, the ring is out of shape, and that Read is refused.
-fn last_after(due: bool, last: Last) -> Last
+fn last_after(due: bool, last: Option<Answer>) -> Option<Answer>
     ensures { result ≡ last_after due last }
 {
     if due {
-        Last::Given(Answer::Refused(Refusal::Shape))
+        Some(Answer::Refused(Refusal::Shape))
     } else {
         last
     }
 }
 
 impl Ring {
+    // The readings of some slots, from slot `from` on, laid in the buffer from `at` on.
+    fn lay_events(&self, buffer: &mut [u64], at: usize, from: usize, count: usize)
+        requires { (at + count ≤ length buffer.old) × (from + count ≤ slot_room) }
+        ensures { buffer.new ≡ sets buffer.old at (events_from self.now.numbers self.now.values from count) }
+    {
+        for i in 0..count {
+            let slot = from + i;
+            buffer[at + i] = event_number(self.numbers[slot], self.values[slot]);
+        }
+    }
+
     // The Reads of a ring in shape.
     fn drain_shaped(mut self, buffer: &mut [u64]) -> DrainCount
         requires { in_shape (state_of self) ≡ true }
@@ -74,30 +61,12 @@ impl Ring {
         let most = buffer.len();
         let mut at: usize = 0;
         let mut left: u32 = Ring::MOST_IN_ROW;
-        let mut last = Last::None;
+        let mut last = None;
         while (at < most) & (0 < left) & agrees(self.counts) {
-            let t = turn_by(
-                left,
-                most - at,
-                self.size,
-                self.places,
-                self.counts,
-                self.reader,
-                &self.words,
-                &self.used,
-                &self.numbers,
-                &self.values,
-            );
-            lay_events(buffer, at, t.from, t.count, &self.numbers, &self.values);
-            let places = t.places;
-            let reader = t.reader;
-            let stores = t.stores;
-            self.counts.handed = t.handed;
-            self.places = places;
-            self.reader = reader;
-            store_words(&mut self.words, stores);
-            store_used(&mut self.used, stores);
-            at = at + t.count;
+            let t = self.turn_by(left, most - at);
+            self.lay_events(buffer, at, t.from, t.count);
+            self.apply_turn(t);
+            at += t.count;
             left = t.left;
             last = t.last;
         }
@@ -114,17 +83,10 @@ impl Ring {
     pub fn drain_into(self, buffer: &mut [u64]) -> DrainCount
         ensures { CountMatches (drain_rule (state_of self) (length buffer.old)) result × (buffer.new ≡ buffer_after (drain_rule (state_of self) (length buffer.old)) buffer.old) }
     {
-        let size = self.size;
-        let places = self.places;
-        let reader = self.reader;
-        let stack = self.stack;
-        let depth = self.depth;
-        let fit = counts_fit(self.counts)
-            & layout_fits(size, places, reader, stack, depth, &self.words, &self.used);
-        if !fit {
+        if !self.fits() {
             return DrainCount {
                 ring: self,
-                last: Last::Given(Answer::Refused(Refusal::Shape)),
+                last: Some(Answer::Refused(Refusal::Shape)),
                 count: 0,
             };
         }

@@ -5,14 +5,14 @@ ghost use Rattle.ring.specs.DrainPart.{HandedBack};
 ghost use Rattle.ring.specs.Ring.{state_of};
 
 use crate::state::Ring;
-use rules::state::Last;
+use rules::state::Answer;
 
 // What a drain gives back: the part of the lent buffer that it filled, the ring, and the last answer.
 #[derive(Drop)]
 pub struct DrainPart<'a> {
     pub part: &'a mut [u64],
     pub ring: Ring,
-    pub last: Last,
+    pub last: Option<Answer>,
 }
 
 // The first `count` elements of a buffer.

@@ -28,5 +28,5 @@ pub use codes::answer_numbers;
 pub use drain_part::DrainPart;
 pub use rules::actions::Coded;
 pub use rules::codes::Numbers;
-pub use rules::state::{Action, Answer, Last, PageNo, ReadingNo, Receipt, Refusal};
+pub use rules::state::{Action, Answer, PageNo, ReadingNo, Receipt, Refusal};
 pub use state::{DrainCount, Replay, Ring, Step};

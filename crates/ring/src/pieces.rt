@@ -1,15 +1,14 @@
 // What an action leaves in each piece of the ring, once it is decided which rule applies: a Write, and then a Read.
 ghost use Rattle.std.specs.Prelude.{◌≡◌, ◌≤◌};
 ghost use Rattle.rules.specs.Limits.{most_pages, most_slots, most_count};
-ghost use Rattle.ring.specs.Pieces.{answer_after, record_after, counts_after, places_after, depth_after, stores_after, MovePrecondition, read_answer, read_handed, read_places, read_phase, read_stores, FetchPrecondition, EventPrecondition};
+ghost use Rattle.ring.specs.Pieces.{answer_after, record_after, counts_after, places_after, depth_after, stores_after, MovePrecondition, read_answer, read_handed, read_places, read_phase, read_stores, FetchPrecondition, EventPrecondition, stored, StoresPrecondition};
+ghost use Rattle.ring.specs.Ring.{state_of};
 
-use crate::cells::{slot_index, used_at, wanting, word_at};
+use crate::cells::wanting;
 use crate::state::Ring;
 use crate::words::{page_in, word_of};
 use rules::moves::{Fetch, Move};
-use rules::state::{
-    Answer, Counts, PageNo, Places, Reader, ReaderPhase, ReadingNo, Size, Writer, WriterPhase,
-};
+use rules::state::{Answer, Counts, PageNo, Places, ReaderPhase, ReadingNo, Writer, WriterPhase};
 
 // The cells of the arrays that an action stores to. A slot is named by its place in the arrays of slots.
 #[derive(Clone, Copy)]
@@ -25,156 +24,183 @@ pub enum Stores {
     Value(usize, u32),
 }
 
-// The answer; `taken` is the count before the step.
-pub(crate) fn answer_after(m: Move, taken: u64) -> Answer
-    requires { taken ≤ most_count }
-    ensures { result ≡ answer_after m taken }
-{
-    let number = ReadingNo(taken as u32);
-    match m {
-        Move::Become(_, answer) => answer,
-        Move::Reserve(_, _) => Answer::Reserved(number),
-        Move::Drop | Move::DropCommit => Answer::Dropped,
-        Move::Mark(_, _) => Answer::Marked,
-        Move::Promote(_, _) => Answer::Promoted,
-        Move::Clear(_, _) => Answer::Cleared,
-        Move::Push(_) => Answer::Pushed,
-        Move::Fill(_, _) => Answer::Filled,
-        Move::Pend => Answer::Pending,
-        Move::Commit => Answer::Committed(taken),
-    }
-}
-
 // The top record: its value with the next phase. A popped one is reset.
 pub(crate) fn record_after(m: Move, value: u32) -> Writer
     ensures { result ≡ record_after m value }
 {
-    let no_writer = wanting(0);
     let phase = match m {
-        Move::Become(next, _) => next,
+        Move::Become(next, _) | Move::Promote(_, next) => next,
         Move::Reserve(t, slot) => WriterPhase::Held(t, slot),
         Move::Mark(t, n) => WriterPhase::Promote(t, n, true),
-        Move::Promote(_, next) => next,
         Move::Clear(t, n) => WriterPhase::Push(t, n),
         Move::Push(_) => WriterPhase::Want,
         Move::Fill(_, _) => WriterPhase::Filled,
         Move::Drop | Move::DropCommit | Move::Pend | Move::Commit => {
-            return no_writer;
+            return wanting(0);
         }
     };
     Writer { value, phase }
 }
 
-// The loss is counted at the mark: by the push another writer may have pushed. A sum past its limit is kept, and 64 bits hold it.
-pub(crate) fn counts_after(m: Move, counts: Counts, used: &[u32; 17]) -> Counts
-    requires { MovePrecondition m × (counts.taken ≤ most_count) × (counts.overwritten ≤ most_count) × (counts.dropped ≤ most_count) }
-    ensures { result ≡ counts_after m counts used.now }
-{
-    let mut next = counts;
-    match m {
-        Move::Reserve(_, _) => next.taken = counts.taken + 1,
-        Move::Drop => next.dropped = counts.dropped + 1,
-        Move::DropCommit => {
-            next.dropped = counts.dropped + 1;
-            next.committed = counts.taken;
+impl Ring {
+    // The answer. A Reserved tells the count before the step.
+    pub(crate) fn answer_after(&self, m: Move) -> Answer
+        requires { self.now.counts.taken ≤ most_count }
+        ensures { result ≡ answer_after m self.now.counts.taken }
+    {
+        let taken = self.counts.taken;
+        match m {
+            Move::Become(_, answer) => answer,
+            Move::Reserve(_, _) => Answer::Reserved(ReadingNo(taken as u32)),
+            Move::Drop | Move::DropCommit => Answer::Dropped,
+            Move::Mark(_, _) => Answer::Marked,
+            Move::Promote(_, _) => Answer::Promoted,
+            Move::Clear(_, _) => Answer::Cleared,
+            Move::Push(_) => Answer::Pushed,
+            Move::Fill(_, _) => Answer::Filled,
+            Move::Pend => Answer::Pending,
+            Move::Commit => Answer::Committed(taken),
         }
-        Move::Mark(_, n) => {
-            let lost = used_at(used, n);
-            next.overwritten = counts.overwritten + (lost as u64);
-        }
-        Move::Commit => next.committed = counts.taken,
-        _ => (),
     }
-    next
-}
 
-// A push moves the tail; a commit, and a drop that commits, the commit page and index.
-pub(crate) fn places_after(m: Move, places: Places, used: &[u32; 17]) -> Places
-    requires { places.tail.0 ≤ most_pages }
-    ensures { result ≡ places_after m places used.now }
-{
-    let mut next = places;
-    match m {
-        Move::Push(n) => next.tail = n,
-        Move::DropCommit | Move::Commit => {
-            let tail = places.tail;
-            next.commit = tail;
-            next.index = used_at(used, tail);
+    // The loss is counted at the mark: by the push another writer may have pushed. A sum past its limit is kept, and 64 bits hold it.
+    pub(crate) fn counts_after(&self, m: Move) -> Counts
+        requires { MovePrecondition m × (self.now.counts.taken ≤ most_count) × (self.now.counts.overwritten ≤ most_count) × (self.now.counts.dropped ≤ most_count) }
+        ensures { result ≡ counts_after m self.now.counts self.now.used }
+    {
+        let mut next = self.counts;
+        match m {
+            Move::Reserve(_, _) => next.taken += 1,
+            Move::Drop => next.dropped += 1,
+            Move::DropCommit => {
+                next.dropped += 1;
+                next.committed = next.taken;
+            }
+            Move::Mark(_, n) => next.overwritten += self.used_at(n) as u64,
+            Move::Commit => next.committed = next.taken,
+            _ => (),
         }
-        _ => (),
+        next
     }
-    next
-}
 
-// One less where the record is popped.
-pub(crate) fn depth_after(m: Move, depth: u32) -> u32
-    requires { 1 ≤ depth }
-    ensures { result ≡ depth_after m depth }
-{
-    match m {
-        Move::Drop | Move::DropCommit | Move::Pend | Move::Commit => depth - 1,
-        _ => depth,
+    // A push moves the tail; a commit, and a drop that commits, the commit page and index.
+    pub(crate) fn places_after(&self, m: Move) -> Places
+        requires { self.now.places.tail.0 ≤ most_pages }
+        ensures { result ≡ places_after m self.now.places self.now.used }
+    {
+        let mut next = self.places;
+        match m {
+            Move::Push(n) => next.tail = n,
+            Move::DropCommit | Move::Commit => {
+                next.commit = next.tail;
+                next.index = self.used_at(next.tail);
+            }
+            _ => (),
+        }
+        next
     }
-}
 
-// The cells that the rule stores to.
-pub(crate) fn stores_after(m: Move, size: Size, taken: u64, value: u32, words: &[u32; 17]) -> Stores
-    requires { MovePrecondition m × (taken ≤ most_count) }
-    ensures { result ≡ stores_after m size taken value words.now }
-{
-    match m {
-        Move::Reserve(t, slot) => {
-            let at = slot_index(size, t, slot);
-            let number = taken as u32;
-            let used = slot + 1;
-            Stores::Number(at, ReadingNo(number), t, used)
+    // One less where the record is popped.
+    pub(crate) fn depth_after(&self, m: Move) -> u32
+        requires { 1 ≤ self.now.depth }
+        ensures { result ≡ depth_after m self.now.depth }
+    {
+        match m {
+            Move::Drop | Move::DropCommit | Move::Pend | Move::Commit => self.depth - 1,
+            _ => self.depth,
         }
-        Move::Mark(t, n) => {
-            let word = word_of(n, Ring::UPDATE) as u32;
-            Stores::Take(t, word, n)
+    }
+
+    // The cells that the rule stores to; `value` is that of the top record.
+    pub(crate) fn stores_after(&self, m: Move, value: u32) -> Stores
+        requires { MovePrecondition m × (self.now.counts.taken ≤ most_count) }
+        ensures { result ≡ stores_after m self.now.size self.now.counts.taken value self.now.words }
+    {
+        match m {
+            Move::Reserve(t, slot) => {
+                let number = ReadingNo(self.counts.taken as u32);
+                Stores::Number(self.slot_index(t, slot), number, t, slot + 1)
+            }
+            Move::Mark(t, n) => Stores::Take(t, word_of(n, Ring::UPDATE) as u32, n),
+            Move::Promote(n, _) => {
+                let next = page_in(self.word_at(n));
+                Stores::Word(n, word_of(next, Ring::HEADER) as u32)
+            }
+            Move::Clear(t, n) => Stores::Word(t, word_of(n, Ring::NORMAL) as u32),
+            Move::Fill(p, slot) => Stores::Value(self.slot_index(p, slot), value),
+            _ => Stores::Same,
         }
-        Move::Promote(n, _) => {
-            let next = page_in(word_at(words, n));
-            let word = word_of(next, Ring::HEADER) as u32;
-            Stores::Word(n, word)
+    }
+
+    // The cells stored.
+    pub(crate) fn store(&mut self, s: Stores)
+        requires { StoresPrecondition s }
+        ensures { state_of self.new ≡ stored s (state_of self.old) }
+    {
+        match s {
+            Stores::Same => (),
+            Stores::Number(at, number, t, used) => {
+                self.numbers[at] = number.0;
+                self.used[t.0 as usize] = used;
+            }
+            Stores::Take(t, word, n) => {
+                self.words[t.0 as usize] = word;
+                self.used[n.0 as usize] = 0;
+            }
+            Stores::Word(p, word) => self.words[p.0 as usize] = word,
+            Stores::Value(at, value) => self.values[at] = value,
         }
-        Move::Clear(t, n) => {
-            let word = word_of(n, Ring::NORMAL) as u32;
-            Stores::Word(t, word)
-        }
-        Move::Fill(p, slot) => {
-            let at = slot_index(size, p, slot);
-            Stores::Value(at, value)
-        }
-        _ => Stores::Same,
     }
 }
 
 // ---- Read
 
-// The answer. An Event tells the slot at the read position of the reader page.
-pub(crate) fn read_answer<'a>(
-    f: Fetch,
-    size: Size,
-    places: Places,
-    numbers: &'a [u32; 272],
-    values: &'a [u32; 272],
-) -> Answer
-    requires { EventPrecondition f size places }
-    ensures { result ≡ read_answer f size places numbers.now values.now }
-{
-    match f {
-        Fetch::Event => {
-            let at = slot_index(size, places.reader, places.position);
-            let number = numbers[at];
-            Answer::Event(ReadingNo(number), values[at])
+impl Ring {
+    // The answer, at a read position of the reader page. An Event tells the slot there.
+    pub(crate) fn read_answer(&self, f: Fetch, places: Places) -> Answer
+        requires { EventPrecondition f self.now.size places }
+        ensures { result ≡ read_answer f self.now.size places self.now.numbers self.now.values }
+    {
+        match f {
+            Fetch::Event => {
+                let at = self.slot_index(places.reader, places.position);
+                Answer::Event(ReadingNo(self.numbers[at]), self.values[at])
+            }
+            Fetch::Empty => Answer::Empty,
+            Fetch::Busy => Answer::Busy,
+            Fetch::Find(_, _) => Answer::Found,
+            Fetch::Prepare(_, _) => Answer::Prepared,
+            Fetch::Swap(_, _) => Answer::Swapped,
+            Fetch::Miss => Answer::Missed,
         }
-        Fetch::Empty => Answer::Empty,
-        Fetch::Busy => Answer::Busy,
-        Fetch::Find(_, _) => Answer::Found,
-        Fetch::Prepare(_, _) => Answer::Prepared,
-        Fetch::Swap(_, _) => Answer::Swapped,
-        Fetch::Miss => Answer::Missed,
+    }
+
+    // The reader's next phase.
+    pub(crate) fn read_phase(&self, f: Fetch) -> ReaderPhase
+        ensures { result ≡ read_phase f self.now.reader }
+    {
+        match f {
+            Fetch::Find(p, h) => ReaderPhase::Found(p, h),
+            Fetch::Prepare(p, h) => ReaderPhase::Ready(p, h),
+            Fetch::Swap(_, _) | Fetch::Miss => ReaderPhase::Idle,
+            _ => self.reader,
+        }
+    }
+
+    // The cells that the rule stores to. A swap empties the reader page: it goes back into the ring.
+    pub(crate) fn read_stores(&self, f: Fetch) -> Stores
+        requires { FetchPrecondition f × (self.now.places.reader.0 ≤ most_pages) }
+        ensures { result ≡ read_stores f self.now.places.reader self.now.words }
+    {
+        let page = self.places.reader;
+        match f {
+            Fetch::Prepare(_, h) => {
+                let next = page_in(self.word_at(h));
+                Stores::Word(page, word_of(next, Ring::HEADER) as u32)
+            }
+            Fetch::Swap(p, _) => Stores::Take(p, word_of(page, Ring::NORMAL) as u32, page),
+            _ => Stores::Same,
+        }
     }
 }
 
@@ -196,7 +222,7 @@ pub(crate) fn read_places(f: Fetch, places: Places) -> Places
 {
     let mut next = places;
     match f {
-        Fetch::Event => next.position = places.position + 1,
+        Fetch::Event => next.position += 1,
         Fetch::Swap(_, h) => {
             next.reader = h;
             next.position = 0;
@@ -204,38 +230,4 @@ pub(crate) fn read_places(f: Fetch, places: Places) -> Places
         _ => (),
     }
     next
-}
-
-// The reader's next phase.
-pub(crate) fn read_phase(f: Fetch, reader: Reader) -> Reader
-    ensures { result ≡ read_phase f reader }
-{
-    let phase = match f {
-        Fetch::Find(p, h) => ReaderPhase::Found(p, h),
-        Fetch::Prepare(p, h) => ReaderPhase::Ready(p, h),
-        Fetch::Swap(_, _) | Fetch::Miss => ReaderPhase::Idle,
-        _ => {
-            return reader;
-        }
-    };
-    Reader { phase }
-}
-
-// The cells that the rule stores to; `page` is the reader page. A swap empties it: it goes back into the ring.
-pub(crate) fn read_stores(f: Fetch, page: PageNo, words: &[u32; 17]) -> Stores
-    requires { FetchPrecondition f × (page.0 ≤ most_pages) }
-    ensures { result ≡ read_stores f page words.now }
-{
-    match f {
-        Fetch::Prepare(_, h) => {
-            let next = page_in(word_at(words, h));
-            let word = word_of(next, Ring::HEADER) as u32;
-            Stores::Word(page, word)
-        }
-        Fetch::Swap(p, _) => {
-            let word = word_of(page, Ring::NORMAL) as u32;
-            Stores::Take(p, word, page)
-        }
-        _ => Stores::Same,
-    }
 }

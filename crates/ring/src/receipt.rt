@@ -4,7 +4,6 @@ ghost use Rattle.rules.specs.Shape.{counts_fit};
 ghost use Rattle.rules.specs.Receipt.{receipt_of, refused_receipt, receipt_rule};
 ghost use Rattle.ring.specs.Ring.{state_of};
 
-use crate::shape::{counts_fit, layout_fits};
 use crate::state::Ring;
 use rules::state::{Counts, Receipt, Refusal};
 
@@ -14,7 +13,7 @@ fn receipt_of(c: Counts) -> Receipt
     ensures { result ≡ receipt_of c }
 {
     Receipt {
-        refusal: 0,
+        refusal: None,
         begun: c.begun,
         taken: c.taken,
         handed: c.handed,
@@ -30,9 +29,8 @@ fn receipt_of(c: Counts) -> Receipt
 fn refused_receipt() -> Receipt
     ensures { result ≡ refused_receipt }
 {
-    let refusal = Refusal::Shape.number();
     Receipt {
-        refusal,
+        refusal: Some(Refusal::Shape),
         begun: 0,
         taken: 0,
         handed: 0,
@@ -49,16 +47,8 @@ impl Ring {
     pub fn receipt(self) -> Receipt
         ensures { result ≡ receipt_rule (state_of self) }
     {
-        let size = self.size;
-        let places = self.places;
-        let counts = self.counts;
-        let reader = self.reader;
-        let stack = self.stack;
-        let depth = self.depth;
-        let fit = counts_fit(counts)
-            & layout_fits(size, places, reader, stack, depth, &self.words, &self.used);
-        if fit {
-            receipt_of(counts)
+        if self.fits() {
+            receipt_of(self.counts)
         } else {
             refused_receipt()
         }

@@ -8,7 +8,7 @@ ghost use Rattle.ring.specs.Ring.{state_of};
 ghost use Rattle.rules.specs.declared.state.Answer.TheVariants.{Accepted};
 
 use crate::actions::{action_at, action_count};
-use crate::change::{change_by, store_numbers, store_used, store_values, store_words, top_at};
+use crate::codes::answer_numbers;
 use crate::state::{Replay, Ring};
 use rules::actions::Coded;
 use rules::codes::Numbers;
@@ -73,38 +73,10 @@ impl Ring {
         let mut at: usize = 0;
         let mut made: usize = 0;
         while let Coded::Whole(action, next) = action_at(bytes, at) {
-            let w = self.stack[top_at(self.depth)];
-            let c = change_by(
-                action,
-                w,
-                self.size,
-                self.places,
-                self.counts,
-                self.depth,
-                self.reader,
-                &self.words,
-                &self.used,
-                &self.numbers,
-                &self.values,
-            );
-            lay_answer(buffer, NUMBERS_PER_ANSWER * made, c.answer);
-            let place = c.at;
-            let writer = c.writer;
-            let counts = c.counts;
-            let places = c.places;
-            let reader = c.reader;
-            let stores = c.stores;
-            self.stack[place] = writer;
-            self.counts = counts;
-            self.places = places;
-            self.depth = c.depth;
-            self.reader = reader;
-            store_words(&mut self.words, stores);
-            store_used(&mut self.used, stores);
-            store_numbers(&mut self.numbers, stores);
-            store_values(&mut self.values, stores);
+            let answer = self.make(action);
+            lay_answer(buffer, NUMBERS_PER_ANSWER * made, answer_numbers(answer));
             at = next;
-            made = made + 1;
+            made += 1;
         }
         ended(self, made, at)
     }

@@ -10,7 +10,7 @@ use crate::cells::wanting;
 use crate::shape::size_fits;
 use crate::state::{Ring, Step};
 use crate::words::word_of;
-use rules::state::{Answer, Counts, PageNo, Places, Reader, ReaderPhase, Refusal, Size};
+use rules::state::{Answer, Counts, PageNo, Places, ReaderPhase, Refusal, Size};
 
 // The page in the word of page i, in a fresh ring of n pages.
 fn fresh_next(n: u32, i: u32) -> u32
@@ -45,11 +45,8 @@ fn fresh_words(n: u32) -> [u32; 17]
     ensures { result ≡ fresh_words n }
 {
     let mut words = [0u32; 17];
-    let mut i: u32 = 0;
-    while i < 17 {
-        let at = i as usize;
-        words[at] = fresh_word(n, i);
-        i = i + 1;
+    for i in 0..17 {
+        words[i as usize] = fresh_word(n, i);
     }
     words
 }
@@ -59,33 +56,26 @@ impl Ring {
     fn blank(size: Size) -> Ring
         ensures { state_of result ≡ blank size }
     {
-        let no_writer = wanting(0);
-        let stack = [no_writer; 4];
-        let reader = Reader {
-            phase: ReaderPhase::Idle,
-        };
-        let places = Places {
-            reader: PageNo(0),
-            tail: PageNo(0),
-            commit: PageNo(0),
-            index: 0,
-            position: 0,
-        };
-        let counts = Counts {
-            begun: 0,
-            taken: 0,
-            committed: 0,
-            handed: 0,
-            overwritten: 0,
-            dropped: 0,
-        };
         Ring {
             size,
-            places,
-            counts,
+            places: Places {
+                reader: PageNo(0),
+                tail: PageNo(0),
+                commit: PageNo(0),
+                index: 0,
+                position: 0,
+            },
+            counts: Counts {
+                begun: 0,
+                taken: 0,
+                committed: 0,
+                handed: 0,
+                overwritten: 0,
+                dropped: 0,
+            },
             depth: 0,
-            reader,
-            stack,
+            reader: ReaderPhase::Idle,
+            stack: [wanting(0); 4],
             words: [0; 17],
             used: [0; 17],
             numbers: [0; 272],
@@ -97,13 +87,9 @@ impl Ring {
     fn fresh_ring(size: Size) -> Ring
         ensures { state_of result ≡ fresh_ring size }
     {
-        let words = fresh_words(size.pages);
         let mut ring = Ring::blank(size);
-        let last = PageNo(size.pages);
-        let mut places = ring.places;
-        places.reader = last;
-        ring.places = places;
-        ring.words = words;
+        ring.places.reader = PageNo(size.pages);
+        ring.words = fresh_words(size.pages);
         ring
     }
 
@@ -132,15 +118,13 @@ impl Ring {
     {
         let size = Size { pages, slots, mode };
         if size_fits(size) {
-            let ring = Ring::fresh_ring(size);
             return Step {
-                ring,
+                ring: Ring::fresh_ring(size),
                 answer: Answer::Accepted,
             };
         }
-        let ring = Ring::plain();
         Step {
-            ring,
+            ring: Ring::plain(),
             answer: Answer::Refused(Refusal::SetUp),
         }
     }

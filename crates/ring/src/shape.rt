@@ -1,13 +1,13 @@
-// The test of shape. Each clause has a function of its own, over the pieces that it reads, so that an action need not pass the ring to it.
+// The test of shape. Each clause has a function of its own.
 // Tests are joined by `&`, since none of them can trap, and a loop goes through all of its places.
 ghost use Rattle.std.specs.Prelude.{◌≡◌, ◌≤◌};
 ghost use Rattle.rules.specs.Limits.{most_pages};
-ghost use Rattle.rules.specs.Shape.{size_fits, places_fit, counts_small, counts_fit, pages_fit, held_fits, writer_fits, reader_fits, stack_fits, word_fits, words_fit, used_fit, layout_fits, in_shape};
+ghost use Rattle.rules.specs.Shape.{size_fits, places_fit, counts_small, counts_fit, pages_fit, held_fits, writer_fits, reader_fits, stack_fits, word_fits, words_fit, used_fit, layout_fits, ring_fits, in_shape};
 ghost use Rattle.ring.specs.Ring.{state_of};
 
 use crate::state::Ring;
 use crate::words::{flag_in, page_in};
-use rules::state::{Counts, PageNo, Places, Reader, ReaderPhase, Size, Writer, WriterPhase};
+use rules::state::{Counts, PageNo, Places, ReaderPhase, Size, Writer, WriterPhase};
 
 pub(crate) fn size_fits(s: Size) -> bool
     ensures { result ≡ size_fits s }
@@ -89,24 +89,6 @@ fn reader_fits(phase: ReaderPhase, s: Size) -> bool
     }
 }
 
-fn stack_fits(stack: [Writer; 4], depth: u32, s: Size) -> bool
-    ensures { result ≡ stack_fits stack depth s }
-{
-    if Ring::MOST_DEPTH < depth {
-        return false;
-    }
-    let top = depth as usize;
-    let mut ok = true;
-    let mut i: usize = 0;
-    while i < top {
-        let w = stack[i];
-        let phase = w.phase;
-        ok = ok & writer_fits(phase, s);
-        i = i + 1;
-    }
-    ok
-}
-
 fn word_fits(w: u32, n: u32) -> bool
     ensures { result ≡ word_fits w n }
 {
@@ -114,70 +96,69 @@ fn word_fits(w: u32, n: u32) -> bool
     (p.0 <= n) & (flag_in(w) != Ring::BOTH_FLAGS)
 }
 
-fn words_fit(words: &[u32; 17], n: u32) -> bool
-    requires { n ≤ most_pages }
-    ensures { result ≡ words_fit words.now n }
-{
-    let top = n as usize;
-    let mut ok = true;
-    let mut i: usize = 0;
-    while i <= top {
-        let w = words[i];
-        ok = ok & word_fits(w, n);
-        i = i + 1;
-    }
-    ok
-}
-
-fn used_fit(used: &[u32; 17], n: u32, slots: u32) -> bool
-    requires { n ≤ most_pages }
-    ensures { result ≡ used_fit used.now n slots }
-{
-    let top = n as usize;
-    let mut ok = true;
-    let mut i: usize = 0;
-    while i <= top {
-        ok = ok & (used[i] <= slots);
-        i = i + 1;
-    }
-    ok
-}
-
-// All of the shape but the counts and the slots' numbers: where things stand.
-pub(crate) fn layout_fits<'a>(
-    size: Size,
-    places: Places,
-    reader: Reader,
-    stack: [Writer; 4],
-    depth: u32,
-    words: &'a [u32; 17],
-    used: &'a [u32; 17],
-) -> bool
-    ensures { result ≡ layout_fits size places reader stack depth words.now used.now }
-{
-    if size_fits(size) {
-        let phase = reader.phase;
-        places_fit(places, size)
-            & reader_fits(phase, size)
-            & stack_fits(stack, depth, size)
-            & words_fit(words, size.pages)
-            & used_fit(used, size.pages, size.slots)
-    } else {
-        false
-    }
-}
-
 impl Ring {
-    // Whether the ring is in shape. The slots' numbers are 32 bits wide, so that they meet their limit by their type.
+    fn stack_fits(&self) -> bool
+        ensures { result ≡ stack_fits self.now.stack self.now.depth self.now.size }
+    {
+        if Ring::MOST_DEPTH < self.depth {
+            return false;
+        }
+        let mut ok = true;
+        for i in 0..self.depth as usize {
+            ok = ok & writer_fits(self.stack[i].phase, self.size);
+        }
+        ok
+    }
+
+    fn words_fit(&self) -> bool
+        requires { self.now.size.pages ≤ most_pages }
+        ensures { result ≡ words_fit self.now.words self.now.size.pages }
+    {
+        let n = self.size.pages;
+        let mut ok = true;
+        for p in 0..=n as usize {
+            ok = ok & word_fits(self.words[p], n);
+        }
+        ok
+    }
+
+    fn used_fit(&self) -> bool
+        requires { self.now.size.pages ≤ most_pages }
+        ensures { result ≡ used_fit self.now.used self.now.size.pages self.now.size.slots }
+    {
+        let mut ok = true;
+        for p in 0..=self.size.pages as usize {
+            ok = ok & (self.used[p] <= self.size.slots);
+        }
+        ok
+    }
+
+    // All of the shape but the counts and the slots' numbers: where things stand.
+    fn layout_fits(&self) -> bool
+        ensures { result ≡ layout_fits self.now.size self.now.places self.now.reader self.now.stack self.now.depth self.now.words self.now.used }
+    {
+        if size_fits(self.size) {
+            places_fit(self.places, self.size)
+                & reader_fits(self.reader, self.size)
+                & self.stack_fits()
+                & self.words_fit()
+                & self.used_fit()
+        } else {
+            false
+        }
+    }
+
+    // All of the shape but the slots' numbers, which are 32 bits wide and meet their limit by their type.
+    pub(crate) fn fits(&self) -> bool
+        ensures { result ≡ ring_fits (state_of self.now) }
+    {
+        counts_fit(self.counts) & self.layout_fits()
+    }
+
+    // Whether the ring is in shape.
     pub fn in_shape(self) -> bool
         ensures { result ≡ in_shape (state_of self) }
     {
-        let size = self.size;
-        let places = self.places;
-        let reader = self.reader;
-        let stack = self.stack;
-        let depth = self.depth;
-        counts_fit(self.counts)
-            & layout_fits(size, places, reader, stack, depth, &self.words, &self.used)
+        self.fits()
     }
 }

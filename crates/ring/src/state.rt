@@ -1,5 +1,5 @@
 // The ring, what its calls give back, and its constants.
-use rules::state::{Answer, Counts, Last, Places, Reader, Size, Writer};
+use rules::state::{Answer, Counts, Places, ReaderPhase, Size, Writer};
 
 // The ring. Arrays have room for 17 pages of 16 slots; slot s of page p stands at p * S + s.
 #[derive(Clone, Copy)]
@@ -9,7 +9,7 @@ pub struct Ring {
     pub counts: Counts,
     // how many records of the stack are in use
     pub depth: u32,
-    pub reader: Reader,
+    pub reader: ReaderPhase,
     // writer records, the outermost first
     pub stack: [Writer; 4],
     // for each page, its link word: 4 * (next page) + flag
@@ -45,7 +45,7 @@ pub struct Replay {
 #[derive(Clone, Copy)]
 pub struct DrainCount {
     pub ring: Ring,
-    pub last: Last,
+    pub last: Option<Answer>,
     pub count: usize,
 }
 

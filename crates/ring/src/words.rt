@@ -3,9 +3,7 @@ ghost use Rattle.std.specs.Prelude.{◌≡◌, ◌≤◌};
 ghost use Rattle.rules.specs.Limits.{most_pages};
 ghost use Rattle.rules.specs.Words.{page_in, flag_in, word_of, links, find_header};
 
-use crate::cells::word_at;
 use crate::state::Ring;
-use rules::moves::Search;
 use rules::state::PageNo;
 
 // The flag is the two low bits of a word, the page the bits above: a split needs no division, which a small core makes slowly.
@@ -20,7 +18,7 @@ pub fn page_in(w: u32) -> PageNo
     PageNo(w >> FLAG_BITS)
 }
 
-// The flag in a word.
+// The flag in a word. A number, as a word is any number: two of the four are those of a mark, and one is that of no word in shape.
 pub fn flag_in(w: u32) -> u32
     ensures { result ≡ flag_in w }
 {
@@ -34,28 +32,26 @@ pub fn word_of(page: PageNo, flag: u32) -> u64
     4 * (page.0 as u64) + (flag as u64)
 }
 
-// Whether the word of page p is n with this flag.
-pub(crate) fn links(words: &[u32; 17], p: PageNo, n: PageNo, flag: u32) -> bool
-    requires { p.0 ≤ most_pages }
-    ensures { result ≡ links words.now p n flag }
-{
-    let w = word_at(words, p);
-    (w as u64) == word_of(n, flag)
-}
-
-// The lowest page up to n, other than the reader page, whose word is HEADER. A word that the reader has prepared is no ring mark.
-pub(crate) fn find_header(words: &[u32; 17], n: u32, reader: PageNo) -> Search
-    requires { n ≤ most_pages }
-    ensures { result ≡ find_header words.now n reader }
-{
-    let mut p: u32 = 0;
-    while p <= n {
-        let at = p as usize;
-        let w = words[at];
-        if (p != reader.0) & (flag_in(w) == Ring::HEADER) {
-            return Search::At(PageNo(p), page_in(w));
-        }
-        p = p + 1;
+impl Ring {
+    // Whether the word of page p is n with this flag.
+    pub(crate) fn links(&self, p: PageNo, n: PageNo, flag: u32) -> bool
+        requires { p.0 ≤ most_pages }
+        ensures { result ≡ links self.now.words p n flag }
+    {
+        (self.word_at(p) as u64) == word_of(n, flag)
     }
-    Search::Nowhere
+
+    // The lowest page up to n, other than the reader page, whose word is HEADER. A word that the reader has prepared is no ring mark.
+    pub(crate) fn find_header(&self) -> Option<(PageNo, PageNo)>
+        requires { self.now.size.pages ≤ most_pages }
+        ensures { result ≡ find_header self.now.words self.now.size.pages self.now.places.reader }
+    {
+        for p in 0..=self.size.pages {
+            let w = self.words[p as usize];
+            if (p != self.places.reader.0) & (flag_in(w) == Ring::HEADER) {
+                return Some((PageNo(p), page_in(w)));
+            }
+        }
+        None
+    }
 }

@@ -1,5 +1,6 @@
 -- What it tells that a Begin is allowed.
 -- Assumes nothing.
+use Rattle.std.specs.Prelude.{Ok}
 use mathlib.Core.Path.{◌≡◌, refl}
 use mathlib.Core.Bool.{Bool, true, false}
 use Prim.Native.Nat.{ℕ}
@@ -7,7 +8,6 @@ use borrow.Author.Tests.{eqb-false}
 use lib.Dec.{eqb}
 use Rattle.rules.specs.Limits.{most_depth, most_count}
 use Rattle.rules.specs.Refusals.{begin_verdict}
-use Rattle.rules.specs.declared.moves.Verdict.TheVariants.{Allowed}
 use Rattle.rules.proofs.Lists.{by_bool}
 use Rattle.ring.proofs.moves.Laws.{refused-is-not-allowed}
 
@@ -16,7 +16,7 @@ pub record Allows (fits : Bool) (depth begun : ℕ) : Type 0 where
   pub not_deep : depth ≡ most_depth → ⊥
   pub not_worn : begun ≡ most_count → ⊥
 
-pub allows : (fits : Bool) (depth begun : ℕ) → begin_verdict fits depth begun ≡ Allowed → Allows fits depth begun
+pub allows : (fits : Bool) (depth begun : ℕ) → begin_verdict fits depth begun ≡ Ok tt → Allows fits depth begun
 allows false depth begun h = absurd (refused-is-not-allowed _ h)
 allows true depth begun h =
     by_bool (eqb depth most_depth)

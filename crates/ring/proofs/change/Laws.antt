@@ -1,5 +1,6 @@
 -- The pieces that an action of any kind leaves, stored, are the action: `change-acts`. And a ring in shape has what the code asks of its pieces. Each by the action,
 -- from the laws of Write and Read; a record, a count or a cell that stays is stored as it was. Assumes nothing.
+use Rattle.std.specs.Prelude.{Result, Ok, Err}
 use mathlib.Core.Path.{◌≡◌, refl, sym, ap}
 use mathlib.Core.Bool.{true}
 use mathlib.Core.List.{List}
@@ -12,7 +13,6 @@ use lib.Seq.{set-get_or}
 use Rattle.rules.specs.Limits.{most_depth, most_count}
 use Rattle.rules.specs.State.{no_writer, with_stack, top, State}
 use Rattle.rules.specs.Answers.{Outcome}
-use Rattle.rules.specs.Codes.{numbers_of}
 use Rattle.rules.specs.Refusals.{begin_verdict, write_verdict, judged}
 use Rattle.rules.specs.Shape.{in_shape}
 use Rattle.rules.specs.Begin.{begin}
@@ -26,8 +26,6 @@ use Rattle.rules.specs.declared.state.Refusal.{Refusal}
 use Rattle.rules.specs.declared.state.Refusal.TheVariants.{Depth, Nobody, Worn}
 use Rattle.rules.specs.declared.state.Action.{Action}
 use Rattle.rules.specs.declared.state.Action.TheVariants.{Begin, Write, Read}
-use Rattle.rules.specs.declared.moves.Verdict.{Verdict}
-use Rattle.rules.specs.declared.moves.Verdict.TheVariants.{Allowed, Refused}
 use Rattle.rules.specs.declared.moves.Move.{Move}
 use Rattle.rules.specs.declared.moves.Move.TheVariants.{Become, Reserve, Drop, DropCommit, Mark, Promote, Clear, Push, Fill, Pend, Commit}
 use Rattle.rules.specs.declared.moves.Fetch.{Fetch}
@@ -44,7 +42,7 @@ use Rattle.ring.proofs.pieces.Laws.{stores-precondition, read-stores-preconditio
 -- an outcome and a change of the ring r tell the same
 pub record Agrees (r : State) (o : Outcome) (c : Change) : Type 0 where
   pub state : o.state ≡ changed c r
-  pub answer : numbers_of o.answer ≡ c.answer
+  pub answer : o.answer ≡ c.answer
 
 module _ (r : State) where
   -- the top record stored as it was
@@ -52,11 +50,11 @@ module _ (r : State) where
   same-stack = sym (set-get_or r.stack (r.depth - 1) no_writer)
 
   judged-agrees :
-      (v : Verdict) (o : Outcome) (c : Change) →
+      (v : Result (Unit {0}) Refusal) (o : Outcome) (c : Change) →
       Agrees r o c →
       Agrees r (judged v r o) (judged_change v (top r) r.places r.counts r.depth r.reader c)
-  judged-agrees Allowed o c h = h
-  judged-agrees (Refused why) o c h = record { state = ap (λ (st : List Writer). with_stack st r) same-stack; answer = refl }
+  judged-agrees (Ok tt) o c h = h
+  judged-agrees (Err why) o c h = record { state = ap (λ (st : List Writer). with_stack st r) same-stack; answer = refl }
 
   moved-agrees : (m : Move) → Agrees r (moved m r) (moved_change m (top r) r.size r.places r.counts r.depth r.reader r.words r.used)
   moved-agrees (Become next a) = record { state = refl; answer = refl }
@@ -124,7 +122,7 @@ module _ (r : State) (s : InShape r) where
       }
 
   -- the change c where the verdict v allows it
-  abbrev judged-by : Change → Verdict → Change
+  abbrev judged-by : Change → Result (Unit {0}) Refusal → Change
   judged-by c v = judged_change v (top r) r.places r.counts r.depth r.reader c
 
   abbrev begun-by : ℕ → Change
@@ -134,20 +132,20 @@ module _ (r : State) (s : InShape r) where
   moved_by = moved_change (plan_write r) (top r) r.size r.places r.counts r.depth r.reader r.words r.used
 
   -- the place of the record that is stored is one of the stack's
-  top-refused : (c : Change) (why : Refusal) → (judged-by c (Refused why)).at < most_depth
+  top-refused : (c : Change) (why : Refusal) → (judged-by c (Err why)).at < most_depth
   top-refused c why = omega (arith, s)
 
   pub change-top : (a : Action) → (change_of r a).at < most_depth
   change-top (Begin v) =
-      by_cond (λ (w : Verdict). (judged-by (begun-by v) w).at < most_depth) (eqb r.depth most_depth)
+      by_cond (λ (w : Result (Unit {0}) Refusal). (judged-by (begun-by v) w).at < most_depth) (eqb r.depth most_depth)
       (λ e. top-refused (begun-by v) Depth)
       (λ e.
       let n = eqb-false r.depth most_depth e in
-      by_cond (λ (w : Verdict). (judged-by (begun-by v) w).at < most_depth) (eqb r.counts.begun most_count)
+      by_cond (λ (w : Result (Unit {0}) Refusal). (judged-by (begun-by v) w).at < most_depth) (eqb r.counts.begun most_count)
       (λ e. top-refused (begun-by v) Worn)
       (λ e. omega (arith, s, n)))
   change-top Write =
-      by_cond (λ (w : Verdict). (judged-by moved_by w).at < most_depth) (eqb r.depth 0)
+      by_cond (λ (w : Result (Unit {0}) Refusal). (judged-by moved_by w).at < most_depth) (eqb r.depth 0)
       (λ e. top-refused moved_by Nobody)
       (λ e. omega (arith, s))
   change-top Read = omega (arith, s)
@@ -155,11 +153,11 @@ module _ (r : State) (s : InShape r) where
   -- the cells are within the arrays; a refusal stores to none
   pub change-stores : (a : Action) → StoresPrecondition (change_of r a).stores
   change-stores (Begin v) =
-      by_cond (λ (w : Verdict). StoresPrecondition (judged-by (begun-by v) w).stores) (eqb r.depth most_depth)
+      by_cond (λ (w : Result (Unit {0}) Refusal). StoresPrecondition (judged-by (begun-by v) w).stores) (eqb r.depth most_depth)
       (λ e. tt)
-      (λ e. by_cond (λ (w : Verdict). StoresPrecondition (judged-by (begun-by v) w).stores) (eqb r.counts.begun most_count) (λ e. tt) (λ e. tt))
+      (λ e. by_cond (λ (w : Result (Unit {0}) Refusal). StoresPrecondition (judged-by (begun-by v) w).stores) (eqb r.counts.begun most_count) (λ e. tt) (λ e. tt))
   change-stores Write =
-      by_cond (λ (w : Verdict). StoresPrecondition (judged-by moved_by w).stores) (eqb r.depth 0)
+      by_cond (λ (w : Result (Unit {0}) Refusal). StoresPrecondition (judged-by moved_by w).stores) (eqb r.depth 0)
       (λ e. tt)
       (λ e. stores-precondition r.size r.counts.taken (top r).value r.words s.slots_most (plan_write r) (plan-precondition r s (eqb-false r.depth 0 e)))
   change-stores Read = read-stores-precondition r.places.reader r.words (plan_read r) (read.plan-precondition r s) (omega (arith, s))

@@ -25,7 +25,7 @@ use Rattle.rules.proofs.drain.Told.{drain-tells}
 use Rattle.ring.proofs.Representation.{ring_of}
 use Rattle.ring.proofs.drain.Laws.{drain_count}
 use Rattle.ring.proofs.demand.Promises.{promises}
-use Rattle.ring.proofs.demand.Steps.{step_of, act-plain, fresh-plain}
+use Rattle.ring.proofs.act.Laws.{step_of, act-plain, fresh-plain}
 
 -- what a replay tells is what its answer and its stop tell
 abbrev Whole : ReplayOutcome → Type 0

@@ -1,6 +1,7 @@
 -- Single actions that follow one another from the ring of an accepted set-up are a run of the rules, since each step is the rule's; so the claim of
 -- the rules holds of them (`singles-claim`), and of calls, which are single actions (`calls-claim`).
 -- Assumes nothing.
+use Rattle.std.specs.Prelude.{Option}
 use mathlib.Core.Path.{◌≡◌, refl, sym, ap, ◌∙◌, subst}
 use mathlib.Core.Logic.{◌≢◌}
 use mathlib.Core.List.{List, [], ◌∷◌, ◌++◌}
@@ -24,7 +25,6 @@ use Rattle.rules.specs.declared.state.Size.{Size}
 use Rattle.rules.specs.declared.state.Action.{Action}
 use Rattle.rules.specs.declared.state.Action.TheVariants as action
 use Rattle.rules.specs.declared.state.Answer.TheVariants.{Accepted}
-use Rattle.rules.specs.declared.state.Last.{Last}
 use Rattle.rules.specs.declared.state.Receipt.{Receipt}
 use Rattle.ring.specs.declared.state.Ring.{Ring}
 use Rattle.ring.specs.declared.state.Step.{Step}
@@ -35,6 +35,7 @@ use Rattle.rules.proofs.drain.Within.{drain-unrefused}
 use Rattle.ring.proofs.demand.Promises.{promises}
 use Rattle.ring.proofs.demand.Steps.{leads-append}
 use Rattle.ring.proofs.demand.Singly.{calls-singly}
+use Rattle.rules.specs.declared.state.Answer.{Answer}
 
 -- the run that goes on by an outcome of action a
 abbrev by : Run → Action → Outcome → Run
@@ -60,9 +61,9 @@ module _ (last : Ring) (sound : Sound (state_of last)) (reached : Reached (state
   step-unbroken : (a : Action) (s : Step) → promises.act last a s → (answers.told s.answer).refusal ≢ 1
   step-unbroken a s g e = sound.unbroken a (sym (ap (λ (o : Outcome). o.tells.refusal) g) ∙ e)
 
-  drain-unbroken : (space : ℕ) (l : Last) → l ≡ (drain_rule (state_of last) space).last → (told_last l).refusal ≢ 1
+  drain-unbroken : (space : ℕ) (l : Option Answer) → l ≡ (drain_rule (state_of last) space).last → (told_last l).refusal ≢ 1
   drain-unbroken space l same e =
-      let none = ap (λ (l : Last). (told_last l).refusal) same ∙ drain-unrefused (state_of last) space reached in
+      let none = ap (λ (l : Option Answer). (told_last l).refusal) same ∙ drain-unrefused (state_of last) space reached in
       omega arith
 
   next-unbroken : (c : Call) → Gives promises last c → refusal_in c ≢ 1

@@ -1,6 +1,7 @@
 -- Every call is single actions: a call of a method for one action is that action, and a drain is so many Reads, as `drain-singly` of the rules has
 -- it. So a list of calls is a list of single actions, call by call, that leads to the ring that the last call gave back.
 -- Assumes nothing.
+use Rattle.std.specs.Prelude.{Option, None}
 use mathlib.Core.Path.{◌≡◌, refl, sym, ap, ◌∙◌, subst}
 use mathlib.Core.List.{List, [], ◌∷◌, ◌++◌}
 use Prim.Native.Nat.{ℕ}
@@ -12,14 +13,13 @@ use Rattle.ring.specs.Ring.{state_of}
 use Rattle.ring.specs.Calls.{Single, single, Call, begin, write, read, act, drain_into, drain, ring_back, last_back, ReadsTold, events_told, Tells, Gives, Follow, Leads, Singles}
 use Rattle.rules.specs.declared.state.Action.{Action}
 use Rattle.rules.specs.declared.state.Action.TheVariants as action
-use Rattle.rules.specs.declared.state.Last.{Last}
-use Rattle.rules.specs.declared.state.Last.TheVariants.{None}
 use Rattle.ring.specs.declared.state.Ring.{Ring}
 use Rattle.ring.specs.declared.state.Step.{Step}
 use Rattle.rules.proofs.drain.Singly.{drain-singly}
 use Rattle.ring.proofs.Representation.{ring_of}
 use Rattle.ring.proofs.demand.Promises.{promises}
 use Rattle.ring.proofs.demand.Steps.{makes, makes-asked, makes-answered, makes-leads, leads-append}
+use Rattle.rules.specs.declared.state.Answer.{Answer}
 
 -- ---- one call
 
@@ -47,7 +47,7 @@ module _ (r : Ring) (space : ℕ) where
   reads-lead back e =
       subst (Leads promises r reads) (ap ring_of (sym (e ∙ made.state))) (makes-leads state (replicate made.reads action.Read))
 
-  reads-told : (last : Last) → last ≡ (drain_rule state space).last → ReadsTold reads last
+  reads-told : (last : Option Answer) → last ≡ (drain_rule state space).last → ReadsTold reads last
   reads-told last e =
       record {
         reads = made.reads;

@@ -29,7 +29,8 @@ use Rattle.ring.specs.declared.state.Replay.{Replay}
 use Rattle.rules.proofs.Lists.{by_bool}
 use Rattle.ring.proofs.Representation.{ring_of, same-ring}
 use Rattle.ring.proofs.demand.Promises.{promises}
-use Rattle.ring.proofs.demand.Steps.{step_of, fresh-plain, makes, makes-asked, makes-answered, makes-length, makes-leads}
+use Rattle.ring.proofs.act.Laws.{step_of, fresh-plain}
+use Rattle.ring.proofs.demand.Steps.{makes, makes-asked, makes-answered, makes-length, makes-leads}
 use Rattle.ring.proofs.demand.Runs.{calls-claim}
 
 -- ---- the ring of a set-up

@@ -2,6 +2,7 @@
 -- where the loop ends all is done that the definition asks. A ring out of shape there is so by its counts alone, and the Read that is due gets
 -- its refusal.
 -- Assumes nothing.
+use Rattle.std.specs.Prelude.{Option, None}
 use mathlib.Core.Path.{◌≡◌, refl, sym, ap, ◌∙◌, subst}
 use mathlib.Core.Bool.{Bool, true, false, ◌&&◌}
 use mathlib.Core.List.{List, [], ◌++◌, append-nil, append_assoc}
@@ -18,8 +19,6 @@ use Rattle.rules.specs.Limits.{most_in_row}
 use Rattle.rules.specs.Drain.{DrainOutcome, told_last, drain_with, drain_ends, drain_reads, buffer_after}
 use Rattle.ring.specs.Turn.{events_from, last_after, turn_of, turned}
 use Rattle.ring.specs.Drain.{CountMatches}
-use Rattle.rules.specs.declared.state.Last.{Last}
-use Rattle.rules.specs.declared.state.Last.TheVariants.{None}
 use Rattle.ring.specs.declared.state.DrainCount.{DrainCount}
 use Rattle.ring.specs.declared.turn.Turn.{Turn}
 use Rattle.rules.proofs.Lists.{by_bool, length-tabulate}
@@ -28,6 +27,7 @@ use Rattle.ring.proofs.Representation.{ring_of}
 use Rattle.ring.proofs.read.Kept.{parts, reshaped}
 use Rattle.ring.proofs.replay.Laws.{over-length, sets_over}
 use Rattle.ring.proofs.turn.Laws.{drains_on, drains-on, events_first, handed-fits, Turned, turn-drains}
+use Rattle.rules.specs.declared.state.Answer.{Answer}
 
 -- ---- the shape, and how many were handed out
 
@@ -51,14 +51,14 @@ module _ (r : State) where
 
 -- ---- the loop
 
-abbrev pub drain_count : State → Last → ℕ → DrainCount
+abbrev pub drain_count : State → Option Answer → ℕ → DrainCount
 drain_count r last count = record { ring = ring_of r; last = last; count = count }
 
 -- `CountMatches` leaves nothing open
 pub count-is : (d : DrainOutcome) (r : DrainCount) → CountMatches d r → r ≡ drain_count d.state d.last (length d.events)
 count-is d r e =
     ap (λ (s : State). drain_count s r.last r.count) e.state
-    ∙ ap (λ (l : Last). drain_count d.state l r.count) e.last_answer
+    ∙ ap (λ (l : Option Answer). drain_count d.state l r.count) e.last_answer
     ∙ ap (drain_count d.state d.last) e.count
 
 abbrev whole : State → List ℕ → DrainOutcome
@@ -68,7 +68,7 @@ events_first-append : (xs ys : List ℕ) (d : DrainOutcome) → events_first xs 
 events_first-append xs ys d = ap (λ (l : List ℕ). drain_with d.state l d.last d.tells) (sym (append_assoc xs ys d.events))
 
 -- the ring r0 has become r, the buffer buffer0 has become buffer, `at` elements are laid, and what is left to do is what is left of the drain
-pub record Progress (r0 : State) (buffer0 : List ℕ) (r : State) (buffer : List ℕ) (at left : ℕ) (last : Last) : Type 0 where
+pub record Progress (r0 : State) (buffer0 : List ℕ) (r : State) (buffer : List ℕ) (at left : ℕ) (last : Option Answer) : Type 0 where
   pub events : List ℕ
   pub laid : buffer ≡ over events buffer0
   pub count : at ≡ length events
@@ -91,7 +91,7 @@ start r buffer h =
       rest = drains-on (length buffer) r None ∙ ap (λ (k : ℕ). drains_on k most_in_row r None) n;
     }
 
-module _ {r0 : State} {buffer0 : List ℕ} {r : State} {buffer : List ℕ} {at left : ℕ} {last : Last} (p : Progress r0 buffer0 r buffer at left last) where
+module _ {r0 : State} {buffer0 : List ℕ} {r : State} {buffer : List ℕ} {at left : ℕ} {last : Option Answer} (p : Progress r0 buffer0 r buffer at left last) where
   pub buffer-length : length buffer ≡ length buffer0
   buffer-length =
       let n = p.count in

@@ -1,6 +1,7 @@
 -- A verdict is not both of its kinds. And what holds in an arm of a match on an enum that is for several variants, as `_ => ..`: there it is known by the
 -- numbers of these variants, and a fact of each of them is a fact of it.
 -- Assumes nothing.
+use Rattle.std.specs.Prelude.{Result, Ok, Err}
 use mathlib.Core.Path.{◌≡◌, refl}
 use mathlib.Core.Logic.{inl, inr}
 use mathlib.Core.List.{List, [], ◌∷◌}
@@ -15,7 +16,6 @@ use Rattle.rules.specs.declared.state.WriterPhase.{WriterPhase}
 use Rattle.rules.specs.declared.state.Action.{Action}
 use Rattle.rules.specs.declared.state.Answer.{Answer}
 use Rattle.rules.specs.declared.state.Refusal.{Refusal}
-use Rattle.rules.specs.declared.moves.Verdict.TheVariants.{Allowed, Refused}
 use Rattle.rules.specs.declared.moves.Move.{Move}
 use Rattle.rules.specs.declared.moves.Move.TheVariants.{Become, Reserve, Drop, DropCommit, Mark, Promote, Clear, Push, Fill, Pend, Commit}
 use Rattle.rules.specs.declared.moves.Fetch.{Fetch}
@@ -30,7 +30,7 @@ use Rattle.rules.specs.contracts.moves.Move as move-type
 use Rattle.rules.specs.contracts.moves.Fetch as fetch-type
 use Rattle.ring.specs.contracts.pieces.Stores as stores-type
 
-pub refused-is-not-allowed : (why : Refusal) → Refused why ≡ Allowed → ⊥
+pub refused-is-not-allowed : (why : Refusal) → ◌≡◌ {A = Result (Unit {0}) Refusal} (Err why) (Ok tt) → ⊥
 refused-is-not-allowed why h = let z : ◌≡◌ {A = ℕ} 0 1 = cc in omega arith
 
 -- ---- variants known by their numbers

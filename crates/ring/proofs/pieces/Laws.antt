@@ -18,7 +18,6 @@ use Rattle.rules.specs.declared.state.Size.{Size}
 use Rattle.rules.specs.declared.state.Places.{Places}
 use Rattle.rules.specs.declared.state.Counts.{Counts}
 use Rattle.rules.specs.declared.state.Writer.{Writer}
-use Rattle.rules.specs.declared.state.Reader.{Reader}
 use Rattle.rules.specs.declared.state.Answer.{Answer}
 use Rattle.rules.specs.declared.moves.Move.{Move}
 use Rattle.rules.specs.declared.moves.Move.TheVariants.{Become, Reserve, Drop, DropCommit, Mark, Promote, Clear, Push, Fill, Pend, Commit}
@@ -28,6 +27,7 @@ use Rattle.ring.specs.declared.pieces.Stores.{Stores}
 use Rattle.ring.specs.declared.pieces.Stores.TheVariants as stores
 use Rattle.rules.proofs.state.Laws.{slot_index-room}
 use Rattle.ring.proofs.write.Laws.{Allows}
+use Rattle.rules.specs.declared.state.ReaderPhase.{ReaderPhase}
 
 -- ---- Write
 
@@ -88,7 +88,7 @@ module _ (size : Size) (taken value : ℕ) (words : List ℕ) (le : size.slots �
 
 -- ---- Read
 
-abbrev pub read_leaves : State → Answer → ℕ → Places → Reader → Stores → Outcome
+abbrev pub read_leaves : State → Answer → ℕ → Places → ReaderPhase → Stores → Outcome
 read_leaves r a handed places reader c = gives a (with_reader reader (with_places places (with_handed handed (stored c r))))
 
 abbrev pub read_leaves_by : Fetch → State → Outcome
@@ -107,7 +107,7 @@ fetched-pieces fetch.Miss r = refl
 
 -- a Read that is allowed leaves these pieces
 pub read-leaves :
-    (r : State) {f : Fetch} {a : Answer} {handed : ℕ} {places : Places} {reader : Reader} {c : Stores} →
+    (r : State) {f : Fetch} {a : Answer} {handed : ℕ} {places : Places} {reader : ReaderPhase} {c : Stores} →
     in_shape r ≡ true →
     f ≡ plan_read r →
     a ≡ read_answer f r.size r.places r.numbers r.values →

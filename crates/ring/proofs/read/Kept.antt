@@ -17,15 +17,15 @@ use Rattle.rules.specs.declared.state.PageNo.{PageNo}
 use Rattle.rules.specs.declared.state.Size.{Size}
 use Rattle.rules.specs.declared.state.Places.{Places}
 use Rattle.rules.specs.declared.state.Counts.{Counts}
-use Rattle.rules.specs.declared.state.Reader.{Reader}
 use Rattle.rules.proofs.Lists.{by-eq, by-lt, and_left, and_right, and_both, each, every-each, all_below-at, all_below-all}
+use Rattle.rules.specs.declared.state.ReaderPhase.{ReaderPhase}
 
 -- ---- a ring in shape with other pieces that fit
 
 -- the tests of the pieces that a Read changes
-pub record Parts (size : Size) (places : Places) (reader : Reader) (words used : List ℕ) : Type 0 where
+pub record Parts (size : Size) (places : Places) (reader : ReaderPhase) (words used : List ℕ) : Type 0 where
   pub places_fit : places_fit places size ≡ true
-  pub reader_fits : reader_fits reader.phase size ≡ true
+  pub reader_fits : reader_fits reader size ≡ true
   pub words_fit : words_fit words size.pages ≡ true
   pub used_fit : used_fit used size.pages size.slots ≡ true
 
@@ -39,11 +39,11 @@ module _ (r : State) (h : in_shape r ≡ true) where
       record { places_fit = e.1.0; reader_fits = e.1.1.0; words_fit = e.1.1.1.1.0; used_fit = e.1.1.1.1.1.0 }
 
   -- the pieces stored
-  abbrev with : Counts → Places → Reader → List ℕ → List ℕ → State
+  abbrev with : Counts → Places → ReaderPhase → List ℕ → List ℕ → State
   with counts places reader words used = with_reader reader (with_places places (with_counts counts (with_words words (with_used used r))))
 
   pub reshaped :
-      (counts : Counts) (places : Places) (reader : Reader) (words used : List ℕ) →
+      (counts : Counts) (places : Places) (reader : ReaderPhase) (words used : List ℕ) →
       counts_fit counts ≡ true →
       Parts r.size places reader words used →
       in_shape (with counts places reader words used) ≡ true

@@ -1,6 +1,7 @@
 -- What it tells that a Read is allowed, and that a rule applies to a ring in shape: an Event's slot lies below the limit, and the pages that a
 -- rule names are pages of the ring.
 -- Assumes nothing.
+use Rattle.std.specs.Prelude.{Option, Some, None, Ok}
 use mathlib.Core.Path.{◌≡◌, refl}
 use mathlib.Core.Bool.{Bool, true, false}
 use Prim.Native.Nat.{ℕ, ◌≤◌, ◌<◌}
@@ -17,18 +18,15 @@ use Rattle.ring.specs.Pieces.{FetchPrecondition, EventPrecondition}
 use Rattle.rules.specs.declared.state.PageNo.{PageNo}
 use Rattle.rules.specs.declared.state.ReaderPhase.{ReaderPhase}
 use Rattle.rules.specs.declared.state.ReaderPhase.TheVariants as phase
-use Rattle.rules.specs.declared.moves.Search.{Search}
-use Rattle.rules.specs.declared.moves.Search.TheVariants.{At, Nowhere}
 use Rattle.rules.specs.declared.moves.Fetch.{Fetch}
 use Rattle.rules.specs.declared.moves.Fetch.TheVariants.{Event, Empty, Busy, Find, Prepare, Swap, Miss}
-use Rattle.rules.specs.declared.moves.Verdict.TheVariants.{Allowed}
 use Rattle.rules.proofs.Lists.{by_cond, and_left}
 use Rattle.rules.proofs.order.Search.{Tells, search-tells}
 use Rattle.rules.proofs.shape.Laws.{InShape, pages-fit}
 use Rattle.rules.proofs.state.Laws.{slot_index-room}
 use Rattle.ring.proofs.moves.Laws.{refused-is-not-allowed}
 
-pub allows : (fits : Bool) → read_verdict fits ≡ Allowed → fits ≡ true
+pub allows : (fits : Bool) → read_verdict fits ≡ Ok tt → fits ≡ true
 allows false h = absurd (refused-is-not-allowed _ h)
 allows true h = refl
 
@@ -39,7 +37,7 @@ abbrev Pages : State → PageNo → PageNo → Type 0
 Pages r p h = (p.0 ≤ r.size.pages) × (h.0 ≤ r.size.pages)
 
 abbrev pub Planned : State → Fetch → Type 0
-Planned r Event = (r.reader.phase ≡ phase.Idle) × (r.places.position < read_limit r.places r.used)
+Planned r Event = (r.reader ≡ phase.Idle) × (r.places.position < read_limit r.places r.used)
 Planned r Empty = Unit {0}
 Planned r Busy = Unit {0}
 Planned r (Find p h) = Pages r p h
@@ -58,11 +56,11 @@ module _ (r : State) (s : InShape r) where
       let w = word_at r.words (page p) in
       leb-true (page_in w).0 r.size.pages (and_left (leb (page_in w).0 r.size.pages) _ (s.word_at p hp))
 
-  find-planned : (found : Search) → Tells r.words r.size.pages r.places.reader.0 found → Planned r (find_by found)
-  find-planned (At p h) t = (t.0, rw t.3 (next_fits p.0 t.0))
-  find-planned Nowhere t = tt
+  find-planned : (found : Option (PageNo × PageNo)) → Tells r.words r.size.pages r.places.reader.0 found → Planned r (find_by found)
+  find-planned (Some (p, h)) t = (t.0, rw t.3 (next_fits p.0 t.0))
+  find-planned None t = tt
 
-  phase-planned : (ph : ReaderPhase) → r.reader.phase ≡ ph → reader_fits ph r.size ≡ true → Planned r (plan_reader ph r.size r.places r.words r.used)
+  phase-planned : (ph : ReaderPhase) → r.reader ≡ ph → reader_fits ph r.size ≡ true → Planned r (plan_reader ph r.size r.places r.words r.used)
   phase-planned phase.Idle e fits =
       by_cond (Planned r) (ltb r.places.position (read_limit r.places r.used))
       (λ l. (e, ltb-true r.places.position (read_limit r.places r.used) l))
@@ -75,7 +73,7 @@ module _ (r : State) (s : InShape r) where
       by_cond (Planned r) (links r.words p h header_flag) (λ k. pages-fit p h r.size.pages fits) (λ k. tt)
 
   pub planned : Planned r (plan_read r)
-  planned = phase-planned r.reader.phase refl s.phase
+  planned = phase-planned r.reader refl s.phase
 
   -- ---- what the code asks
 

@@ -14,7 +14,6 @@ use Rattle.rules.specs.Act.{act}
 use Rattle.rules.specs.Actions.{Decoded, stopped, coded_at, decoded, decoded_from}
 use Rattle.rules.specs.Replay.{state_after, answers_of, numbers_per_answer, laid, over, ran_buffer, Reached, replay_with, ran}
 use Rattle.rules.specs.State.{State}
-use Rattle.ring.specs.Change.{change_of, changed}
 use Rattle.ring.specs.Replay.{laid_at}
 use Rattle.rules.specs.declared.codes.Numbers.{Numbers}
 use Rattle.rules.specs.declared.state.Action.{Action}
@@ -23,7 +22,6 @@ use Rattle.rules.specs.declared.state.Answer.TheVariants.{Accepted}
 use Rattle.rules.specs.declared.actions.Coded.TheVariants.{Whole}
 use Rattle.rules.proofs.actions.Laws.{decoded-whole}
 use Rattle.rules.proofs.runs.Reached.{after-append, reached-shape}
-use Rattle.ring.proofs.change.Laws.{change-acts}
 
 -- ---- a list of actions, and one more
 
@@ -128,27 +126,25 @@ module _ {r0 : State} {bytes buffer0 : List ℕ} {r : State} {buffer : List ℕ}
 
   pub turn :
       {a : Action} {to : ℕ} {r' : State} {buffer' : List ℕ} →
-      Reached r0 →
       numbers_per_answer * length (decoded bytes).actions ≤ length buffer0 →
       coded_at bytes at ≡ Whole a to →
-      r' ≡ changed (change_of r a) r →
-      buffer' ≡ laid_at buffer (numbers_per_answer * made) (change_of r a).answer →
+      r' ≡ (act r a).state →
+      buffer' ≡ laid_at buffer (numbers_per_answer * made) (numbers_of (act r a).answer) →
       Progress r0 bytes buffer0 r' buffer' to (made + 1)
-  turn {a} {to} {r'} {buffer'} h fits coded changes lays =
-      let agrees = change-acts r (shaped h) a in
+  turn {a} {to} {r'} {buffer'} fits coded acts lays =
       let so_far = p.done in
       let prefix = laid (answers_of r0 so_far) in
       let here = (act (state_after r0 so_far) a).answer in
-      let number : (change_of r a).answer ≡ numbers_of here = sym agrees.answer ∙ ap (λ (q : State). numbers_of (act q a).answer) p.state in
+      let number : numbers_of (act r a).answer ≡ numbers_of here = ap (λ (q : State). numbers_of (act q a).answer) p.state in
       let long = prefix-length in
       let left = one_left coded in
       record {
         done = so_far ++ one a;
-        state = changes ∙ sym agrees.state ∙ ap (λ (q : State). (act q a).state) p.state ∙ sym (after_more r0 so_far a);
+        state = acts ∙ ap (λ (q : State). (act q a).state) p.state ∙ sym (after_more r0 so_far a);
         answers =
             lays
-            ∙ ap (λ (l : List ℕ). laid_at l (numbers_per_answer * made) (change_of r a).answer) p.answers
-            ∙ ap (λ (k : ℕ). laid_at (over prefix buffer0) k (change_of r a).answer) (sym long)
+            ∙ ap (λ (l : List ℕ). laid_at l (numbers_per_answer * made) (numbers_of (act r a).answer)) p.answers
+            ∙ ap (λ (k : ℕ). laid_at (over prefix buffer0) k (numbers_of (act r a).answer)) (sym long)
             ∙ ap (λ (n : Numbers). laid_at (over prefix buffer0) (length prefix) n) number
             ∙ lay-more prefix buffer0 (numbers_of here) (omega arith)
             ∙ ap (λ (l : List ℕ). over l buffer0) (sym (laid_more (answers_of r0 so_far) here) ∙ ap laid (sym (answers-more r0 so_far a)));

@@ -2,6 +2,7 @@
 -- that is no Event's, and for an Event as many as are told. It leaves all of the shape but the counts, and handed + overwritten is past
 -- committed by at most one.
 -- Assumes nothing.
+use Rattle.std.specs.Prelude.{Option, Some}
 use mathlib.Core.Path.{◌≡◌, refl, sym, ap, ◌∙◌, subst}
 use mathlib.Core.Bool.{true}
 use mathlib.Core.List.{List, [], ◌∷◌, ◌++◌}
@@ -19,16 +20,13 @@ use Rattle.rules.specs.Words.{page_in, word_of}
 use Rattle.rules.specs.Shape.{places_fit, counts_fit, reader_fits, words_fit, used_fit, in_shape}
 use Rattle.rules.specs.Read.{read_limit, plan_read, fetched}
 use Rattle.rules.specs.Drain.{event_number, DrainOutcome, drain_with, drain_ends, event_first, after_read, reads_in_row, drain_reads}
-use Rattle.ring.specs.Pieces.{read_answer, read_places, read_phase, read_stores, words_stored, used_stored, StoresPrecondition}
+use Rattle.ring.specs.Pieces.{read_answer, read_places, read_phase, read_stores, stored, StoresPrecondition}
 use Rattle.ring.specs.Turn.{stored_event, events_from, smaller, event_count, places_before, left_after, turn, turn_of, turned, TurnPrecondition}
 use Rattle.rules.specs.declared.state.PageNo.{PageNo}
 use Rattle.rules.specs.declared.state.Places.{Places}
-use Rattle.rules.specs.declared.state.Reader.{Reader}
 use Rattle.rules.specs.declared.state.Answer.{Answer}
 use Rattle.rules.specs.declared.state.Answer.TheVariants as answer
 use Rattle.rules.specs.declared.state.ReaderPhase.TheVariants as phase
-use Rattle.rules.specs.declared.state.Last.{Last}
-use Rattle.rules.specs.declared.state.Last.TheVariants.{Given}
 use Rattle.rules.specs.declared.moves.Fetch.{Fetch}
 use Rattle.rules.specs.declared.moves.Fetch.TheVariants.{Event, Empty, Busy, Find, Prepare, Swap, Miss}
 use Rattle.ring.specs.declared.turn.Turn.{Turn}
@@ -38,15 +36,16 @@ use Rattle.rules.proofs.state.Laws.{slot_index-room}
 use Rattle.ring.proofs.pieces.Laws.{read-stores-precondition}
 use Rattle.ring.proofs.read.Laws.{Planned, limit-fits, next_fits, planned, plan-precondition, event-here}
 use Rattle.ring.proofs.read.Kept.{Parts, parts, reshaped, word-fits, set-word, no-used}
+use Rattle.rules.specs.declared.state.ReaderPhase.{ReaderPhase}
 
 -- ---- what is left of a drain
 
 -- with space for so many elements, and so many Reads before the next Event
-abbrev pub drains_on : ℕ → ℕ → State → Last → DrainOutcome
+abbrev pub drains_on : ℕ → ℕ → State → Option Answer → DrainOutcome
 drains_on zero left r last = drain_ends r last
 drains_on (suc space) left r last = reads_in_row (drain_reads most_in_row space) left r last
 
-pub drains-on : (space : ℕ) (r : State) (last : Last) → drain_reads most_in_row space r last ≡ drains_on space most_in_row r last
+pub drains-on : (space : ℕ) (r : State) (last : Option Answer) → drain_reads most_in_row space r last ≡ drains_on space most_in_row r last
 drains-on zero r last = refl
 drains-on (suc space) r last = refl
 
@@ -58,7 +57,7 @@ events_first-more : (es : List ℕ) (e : ℕ) (d : DrainOutcome) → events_firs
 events_first-more es e d = ap (λ (l : List ℕ). drain_with d.state l d.last d.tells) (sym (append_snoc es e d.events))
 
 -- one Read of a ring in shape
-module _ (q : State) (n l : ℕ) (last : Last) where
+module _ (q : State) (n l : ℕ) (last : Option Answer) where
   step :
       {f : Fetch} →
       in_shape q ≡ true →
@@ -118,7 +117,7 @@ module _ (r : State) where
       let h : r.counts.handed + 0 ≡ r.counts.handed = omega arith in
       ap (λ (k : ℕ). with_position k (with_handed (r.counts.handed + 0) r)) p ∙ ap (λ (k : ℕ). with_handed k r) h
 
-  module _ (whole : in_shape r ≡ true) (idle : r.reader.phase ≡ phase.Idle) where
+  module _ (whole : in_shape r ≡ true) (idle : r.reader ≡ phase.Idle) where
     out-shape : (j : ℕ) → r.places.position + j ≤ r.size.slots → r.counts.handed + j + r.counts.overwritten ≤ r.counts.committed → in_shape (out j r) ≡ true
     out-shape j le agree =
         let s = in-shape r whole in
@@ -132,23 +131,23 @@ module _ (r : State) where
     out-plan j lt = rw (idle, lt-ltb (r.places.position + j) (read_limit r.places r.used) lt)
 
     one_more :
-        (j n l : ℕ) (last : Last) →
+        (j n l : ℕ) (last : Option Answer) →
         in_shape (out j r) ≡ true →
         r.places.position + j < read_limit r.places r.used →
-        drains_on (suc n) (suc l) (out j r) last ≡ event_first (event j) (drains_on n most_in_row (out (suc j) r) (Given (event_answer j)))
+        drains_on (suc n) (suc l) (out j r) last ≡ event_first (event j) (drains_on n most_in_row (out (suc j) r) (Some (event_answer j)))
     one_more j n l last shape lt =
         step (out j r) n l last shape (out-plan j lt)
-        ∙ ap (λ (k : ℕ). event_first k (drain_reads most_in_row n (out 1 (out j r)) (Given (event_answer j)))) (event-told j)
-        ∙ ap (λ (q : State). event_first (event j) (drain_reads most_in_row n q (Given (event_answer j)))) (out-more j)
-        ∙ ap (event_first (event j)) (drains-on n (out (suc j) r) (Given (event_answer j)))
+        ∙ ap (λ (k : ℕ). event_first k (drain_reads most_in_row n (out 1 (out j r)) (Some (event_answer j)))) (event-told j)
+        ∙ ap (λ (q : State). event_first (event j) (drain_reads most_in_row n q (Some (event_answer j)))) (out-more j)
+        ∙ ap (event_first (event j)) (drains-on n (out (suc j) r) (Some (event_answer j)))
 
     -- j + 1 Events
     run :
-        (j space l : ℕ) (last : Last) →
+        (j space l : ℕ) (last : Option Answer) →
         r.places.position + j < read_limit r.places r.used →
         j < space →
         r.counts.handed + j + r.counts.overwritten ≤ r.counts.committed →
-        drains_on space (suc l) r last ≡ events_first (tabulate (suc j) event) (drains_on (space - suc j) most_in_row (out (suc j) r) (Given (event_answer j)))
+        drains_on space (suc l) r last ≡ events_first (tabulate (suc j) event) (drains_on (space - suc j) most_in_row (out (suc j) r) (Some (event_answer j)))
     run zero space l last lt some agree =
         let most = limit-fits r (in-shape r whole) in
         let n : space ≡ suc (space - 1) = omega arith in
@@ -159,9 +158,9 @@ module _ (r : State) where
         let most = limit-fits r (in-shape r whole) in
         let n : space - suc j ≡ suc (space - suc (suc j)) = omega arith in
         run j space l last (omega arith) (omega arith) (omega arith)
-        ∙ ap (λ (k : ℕ). events_first (tabulate (suc j) event) (drains_on k most_in_row (out (suc j) r) (Given (event_answer j)))) n
-        ∙ ap (events_first (tabulate (suc j) event)) (one_more (suc j) (space - suc (suc j)) (most_in_row - 1) (Given (event_answer j)) (out-shape (suc j) (omega arith) agree) lt)
-        ∙ events_first-more (tabulate (suc j) event) (event (suc j)) (drains_on (space - suc (suc j)) most_in_row (out (suc (suc j)) r) (Given (event_answer (suc j))))
+        ∙ ap (λ (k : ℕ). events_first (tabulate (suc j) event) (drains_on k most_in_row (out (suc j) r) (Some (event_answer j)))) n
+        ∙ ap (events_first (tabulate (suc j) event)) (one_more (suc j) (space - suc (suc j)) (most_in_row - 1) (Some (event_answer j)) (out-shape (suc j) (omega arith) agree) lt)
+        ∙ events_first-more (tabulate (suc j) event) (event (suc j)) (drains_on (space - suc (suc j)) most_in_row (out (suc (suc j)) r) (Some (event_answer (suc j))))
 
 -- the smaller of two is at most either, and not 0 if neither is
 smaller-is : (a b : ℕ) → 0 < a → 0 < b → (smaller a b ≤ a) × (smaller a b ≤ b) × (0 < smaller a b)
@@ -172,7 +171,7 @@ smaller-is a b ha hb =
 
 -- ---- what a turn does
 
-pub record Turned (r : State) (space left : ℕ) (last : Last) (t : Turn) : Type 0 where
+pub record Turned (r : State) (space left : ℕ) (last : Option Answer) (t : Turn) : Type 0 where
   -- all of the shape but the counts, and these at most one off
   pub shape : in_shape (with_handed 0 (turned t r)) ≡ true
   pub agree : t.handed + r.counts.overwritten ≤ r.counts.committed + 1
@@ -186,7 +185,7 @@ pub record Turned (r : State) (space left : ℕ) (last : Last) (t : Turn) : Type
   -- it leaves less to do
   pub less : (space - t.count) * suc most_in_row + t.left < space * suc most_in_row + left
 
-module _ (r : State) (whole : in_shape r ≡ true) (space left : ℕ) (last : Last) (some : 0 < space) (more : 0 < left) where
+module _ (r : State) (whole : in_shape r ≡ true) (space left : ℕ) (last : Option Answer) (some : 0 < space) (more : 0 < left) where
   abbrev shaped : InShape r
   shaped = in-shape r whole
 
@@ -200,7 +199,7 @@ module _ (r : State) (whole : in_shape r ≡ true) (space left : ℕ) (last : La
       let stores = read_stores f r.places.reader r.words in
       with_reader (read_phase f r.reader)
       (with_places (read_places f (places_position position r.places))
-      (with_handed handed (with_words (words_stored stores r.words) (with_used (used_stored stores r.used) r))))
+      (with_handed handed (stored stores r)))
 
   -- a rule that is no Event's: one Read
   other :
@@ -209,7 +208,7 @@ module _ (r : State) (whole : in_shape r ≡ true) (space left : ℕ) (last : La
       leaves f r.places.position r.counts.handed ≡ (fetched f r).state →
       read_answer f r.size (places_before r.places 0) r.numbers r.values ≡ (fetched f r).answer →
       after_read (drain_reads most_in_row (space - 1)) (reads_in_row (drain_reads most_in_row (space - 1)) (left - 1)) (fetched f r)
-      ≡ drains_on (suc (space - 1)) (left_after f left) (fetched f r).state (Given (fetched f r).answer) →
+      ≡ drains_on (suc (space - 1)) (left_after f left) (fetched f r).state (Some (fetched f r).answer) →
       left_after f left < left →
       in_shape (with_handed 0 (turned (with f 0) r)) ≡ true →
       Turned r space left last (with f 0)
@@ -230,9 +229,9 @@ module _ (r : State) (whole : in_shape r ≡ true) (space left : ℕ) (last : La
             ∙ ap (λ (k : ℕ). drains_on (suc (space - 1)) k r last) l
             ∙ step r (space - 1) (left - 1) last whole plan
             ∙ kind
-            ∙ ap (λ (k : ℕ). drains_on k (left_after f left) (fetched f r).state (Given (fetched f r).answer)) m
-            ∙ ap (λ (q : State). drains_on (space - 0) (left_after f left) q (Given (fetched f r).answer)) same
-            ∙ ap (λ (a : Answer). drains_on (space - 0) (left_after f left) (turned (with f 0) r) (Given a)) (sym answer);
+            ∙ ap (λ (k : ℕ). drains_on k (left_after f left) (fetched f r).state (Some (fetched f r).answer)) m
+            ∙ ap (λ (q : State). drains_on (space - 0) (left_after f left) q (Some (fetched f r).answer)) same
+            ∙ ap (λ (a : Answer). drains_on (space - 0) (left_after f left) (turned (with f 0) r) (Some a)) (sym answer);
         count = omega arith;
         slots = omega (arith, s);
         less = omega arith;
@@ -240,9 +239,9 @@ module _ (r : State) (whole : in_shape r ≡ true) (space left : ℕ) (last : La
 
   -- the shape where a Read leaves these pieces
   kept :
-      (places : Places) (reader : Reader) (words used : List ℕ) →
+      (places : Places) (reader : ReaderPhase) (words used : List ℕ) →
       places_fit places r.size ≡ true →
-      reader_fits reader.phase r.size ≡ true →
+      reader_fits reader r.size ≡ true →
       words_fit words r.size.pages ≡ true →
       used_fit used r.size.pages r.size.slots ≡ true →
       in_shape (with_reader reader (with_places places (with_handed 0 (with_words words (with_used used r))))) ≡ true
@@ -262,7 +261,7 @@ module _ (r : State) (whole : in_shape r ≡ true) (space left : ℕ) (last : La
 
   -- j + 1 Events: the last of them is made at the position before it
   events :
-      r.reader.phase ≡ phase.Idle →
+      r.reader ≡ phase.Idle →
       (j : ℕ) →
       r.places.position + suc j ≤ read_limit r.places r.used →
       suc j ≤ space →
@@ -281,8 +280,8 @@ module _ (r : State) (whole : in_shape r ≡ true) (space left : ℕ) (last : La
         rest =
             ap (λ (n : ℕ). drains_on space n r last) l
             ∙ run r whole idle j space (left - 1) last (omega arith) fits (omega arith)
-            ∙ ap (λ (n : ℕ). events_first (tabulate (suc j) (event r)) (drains_on (space - suc j) most_in_row (with_position n (with_handed (r.counts.handed + suc j) r)) (Given (event_answer r j)))) p
-            ∙ ap (λ (n : ℕ). events_first (tabulate (suc j) (event r)) (drains_on (space - suc j) most_in_row (turned (with Event (suc j)) r) (Given (event_answer r n)))) k;
+            ∙ ap (λ (n : ℕ). events_first (tabulate (suc j) (event r)) (drains_on (space - suc j) most_in_row (with_position n (with_handed (r.counts.handed + suc j) r)) (Some (event_answer r j)))) p
+            ∙ ap (λ (n : ℕ). events_first (tabulate (suc j) (event r)) (drains_on (space - suc j) most_in_row (turned (with Event (suc j)) r) (Some (event_answer r n)))) k;
         count = fits;
         slots = omega arith;
         less = omega arith;
@@ -305,12 +304,12 @@ module _ (r : State) (whole : in_shape r ≡ true) (space left : ℕ) (last : La
       other Busy plan refl refl refl more (kept (places_before r.places 0) r.reader r.words r.used still fit.reader_fits fit.words_fit fit.used_fit)
   by-rule (Find p q) plan h =
       other (Find p q) plan refl refl refl (omega arith)
-      (kept (places_before r.places 0) (record { phase = phase.Found p q }) r.words r.used still (pages-true p q r.size.pages h.0 h.1) fit.words_fit fit.used_fit)
+      (kept (places_before r.places 0) (phase.Found p q) r.words r.used still (pages-true p q r.size.pages h.0 h.1) fit.words_fit fit.used_fit)
   by-rule (Prepare p q) plan h =
       let w = word_of (page_in (word_at r.words q)) header_flag in
       let words = set r.words r.places.reader.0 w in
       other (Prepare p q) plan refl refl refl (omega arith)
-      (kept (places_before r.places 0) (record { phase = phase.Ready p q }) words r.used still (pages-true p q r.size.pages h.0 h.1)
+      (kept (places_before r.places 0) (phase.Ready p q) words r.used still (pages-true p q r.size.pages h.0 h.1)
       (set-word r.size.pages r.words r.places.reader.0 w fit.words_fit
       (word-fits r.size.pages (page_in (word_at r.words q)) header_flag (next_fits r shaped q.0 h.1) (omega arith)))
       fit.used_fit)
@@ -319,12 +318,12 @@ module _ (r : State) (whole : in_shape r ≡ true) (space left : ℕ) (last : La
       let w = word_of r.places.reader normal_flag in
       let words = set r.words p.0 w in
       other (Swap p q) plan refl refl refl (omega arith)
-      (kept (places_reader q (places_position 0 r.places)) (record { phase = phase.Idle }) words (set r.used r.places.reader.0 0) (swap-fits r s q h.1) refl
+      (kept (places_reader q (places_position 0 r.places)) (phase.Idle) words (set r.used r.places.reader.0 0) (swap-fits r s q h.1) refl
       (set-word r.size.pages r.words p.0 w fit.words_fit (word-fits r.size.pages r.places.reader normal_flag s.reader (omega arith)))
       (no-used r.size.pages r.used r.size.slots r.places.reader.0 fit.used_fit))
   by-rule Miss plan h =
       other Miss plan refl refl refl (omega arith)
-      (kept (places_before r.places 0) (record { phase = phase.Idle }) r.words r.used still refl fit.words_fit fit.used_fit)
+      (kept (places_before r.places 0) (phase.Idle) r.words r.used still refl fit.words_fit fit.used_fit)
 
   pub turn-drains : Turned r space left last (turn_of r left space)
   turn-drains = by-rule (plan_read r) refl (planned r shaped)

@@ -1,5 +1,6 @@
 -- What it tells that a Write is allowed, and that the move decided on a ring in shape names only pages and slots that the ring has room for.
 -- Assumes nothing.
+use Rattle.std.specs.Prelude.{Option, Some, None, Ok}
 use mathlib.Core.Path.{◌≡◌, refl}
 use mathlib.Core.Bool.{Bool, true, false, ◌&&◌, ◌||◌}
 use Prim.Native.Nat.{ℕ, ◌-◌, ◌≤◌}
@@ -16,9 +17,6 @@ use Rattle.ring.specs.Pieces.{MovePrecondition}
 use Rattle.rules.specs.declared.state.PageNo.{PageNo}
 use Rattle.rules.specs.declared.state.WriterPhase.{WriterPhase}
 use Rattle.rules.specs.declared.state.WriterPhase.TheVariants as phase
-use Rattle.rules.specs.declared.moves.Search.{Search}
-use Rattle.rules.specs.declared.moves.Search.TheVariants.{At, Nowhere}
-use Rattle.rules.specs.declared.moves.Verdict.TheVariants.{Allowed}
 use Rattle.rules.proofs.Lists.{by_bool, by_cond}
 use Rattle.rules.proofs.shape.Laws.{InShape, pages-fit, held-fits}
 use Rattle.ring.proofs.moves.Laws.{refused-is-not-allowed}
@@ -27,7 +25,7 @@ pub record Allows (fits : Bool) (depth : ℕ) : Type 0 where
   pub shape : fits ≡ true
   pub somebody : depth ≡ 0 → ⊥
 
-pub allows : (fits : Bool) (depth : ℕ) → write_verdict fits depth ≡ Allowed → Allows fits depth
+pub allows : (fits : Bool) (depth : ℕ) → write_verdict fits depth ≡ Ok tt → Allows fits depth
 allows false depth h = absurd (refused-is-not-allowed _ h)
 allows true depth h =
     by_bool (eqb depth 0)
@@ -48,9 +46,9 @@ full-precondition r n flag =
     by_cond MovePrecondition (eqb flag header_flag || eqb flag update_flag) (λ e. tt) (λ e. tt)))))
 
 -- PROMOTE names n alone, whatever was found
-promote-precondition : (found : Search) (n : PageNo) (next : WriterPhase) → n.0 ≤ most_pages → MovePrecondition (promote_by found n next)
-promote-precondition (At p h) n next le = tt
-promote-precondition Nowhere n next le = le
+promote-precondition : (found : Option (PageNo × PageNo)) (n : PageNo) (next : WriterPhase) → n.0 ≤ most_pages → MovePrecondition (promote_by found n next)
+promote-precondition (Some (p, h)) n next le = tt
+promote-precondition None n next le = le
 
 module _ (r : State) (s : InShape r) where
   pages-room : (t n : PageNo) → pages_fit t n r.size.pages ≡ true → (t.0 ≤ most_pages) × (n.0 ≤ most_pages)

@@ -1,20 +1,16 @@
--- `Ring::drain_into` is the rule: the Reads of a ring in shape, and the refusal out of it. The code tests all of the shape but the slots'
--- numbers, and those are 32 bits wide. Assumes nothing.
+-- `Ring::drain_into` is the rule: the Reads of a ring in shape, and the refusal out of it. What the code tests is the whole shape
+-- (proofs/shape/Laws). Assumes nothing.
 use Rattle.std.proofs.Common.{refl, sym, ◌∙◌}
 use Rattle.ring.proofs.shape.Laws.{fitting}
 use Rattle.ring.proofs.state.Ring.drain_into.Goals as goal
 
-pub returns-then-not-fit : goal.returns-then-not-fit
-returns-then-not-fit c =
-    let fit = fitting c.args.self _ c.well_formed.0 c.counts_fit.ensures c.layout_fits.ensures in
-    rw (sym fit ∙ c.if-not-fit.true) (record { state = refl; last_answer = refl; tells = refl; count = refl }, refl)
+pub returns-then-not-fits : goal.returns-then-not-fits
+returns-then-not-fits c =
+    rw (sym (fitting c.args.self _ c.well_formed.0) ∙ sym c.fits.ensures ∙ c.if-not-fits.true)
+    (record { state = refl; last_answer = refl; tells = refl; count = refl }, refl)
 
 pub drain_shaped-requires : goal.drain_shaped-requires
-drain_shaped-requires c =
-    let fit = fitting c.args.self _ c.well_formed.0 c.counts_fit.ensures c.layout_fits.ensures in
-    sym fit ∙ c.if-not-fit.false
+drain_shaped-requires c = sym (fitting c.args.self _ c.well_formed.0) ∙ sym c.fits.ensures ∙ c.if-not-fits.false
 
 pub returns : goal.returns
-returns c =
-    let fit = fitting c.args.self _ c.well_formed.0 c.counts_fit.ensures c.layout_fits.ensures in
-    rw (sym fit ∙ c.if-not-fit.false) c.drain_shaped.ensures
+returns c = rw (sym (fitting c.args.self _ c.well_formed.0) ∙ sym c.fits.ensures ∙ c.if-not-fits.false) c.drain_shaped.ensures

@@ -1,15 +1,11 @@
--- `Ring::receipt` is the rule: that of the counts in shape, and the refused one out of it. The code tests all of the shape but the slots' numbers, and those
--- are 32 bits wide. Assumes nothing.
+-- `Ring::receipt` is the rule: that of the counts in shape, and the refused one out of it. What the code tests is the whole shape
+-- (proofs/shape/Laws). Assumes nothing.
 use Rattle.std.proofs.Common.{sym, ◌∙◌}
 use Rattle.ring.proofs.shape.Laws.{fitting}
 use Rattle.ring.proofs.state.Ring.receipt.Goals as goal
 
-pub returns-then-fit : goal.returns-then-fit
-returns-then-fit c =
-    let fit = fitting c.args.self _ c.well_formed.0 c.counts_fit.ensures c.layout_fits.ensures in
-    rw (sym fit ∙ c.if-fit.true) c.receipt_of.ensures
+pub returns-then-fits : goal.returns-then-fits
+returns-then-fits c = rw (sym (fitting c.args.self _ c.well_formed.0) ∙ sym c.fits.ensures ∙ c.if-fits.true) c.receipt_of.ensures
 
-pub returns-else-fit : goal.returns-else-fit
-returns-else-fit c =
-    let fit = fitting c.args.self _ c.well_formed.0 c.counts_fit.ensures c.layout_fits.ensures in
-    rw (sym fit ∙ c.if-fit.false) c.refused_receipt.ensures
+pub returns-else-fits : goal.returns-else-fits
+returns-else-fits c = rw (sym (fitting c.args.self _ c.well_formed.0) ∙ sym c.fits.ensures ∙ c.if-fits.false) c.refused_receipt.ensures

@@ -1,7 +1,7 @@
 -- The definition tests the size first, as the code does.
 use Rattle.std.proofs.Common.{sym}
 use Rattle.rules.specs.Shape.{layout_fits}
-use Rattle.ring.proofs.shape.layout_fits.Goals as goal
+use Rattle.ring.proofs.state.Ring.layout_fits.Goals as goal
 
 pub returns-then-size_fits : goal.returns-then-size_fits
 unfolding layout_fits

@@ -1,0 +1,2 @@
+-- Actions of any kind.
+pub mod Laws
