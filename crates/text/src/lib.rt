@@ -1,8 +1,9 @@
 // The ring's answers, states and receipts as lines of text on standard output, and what is wrong with a file as a line on standard error. No
-// public function has a `requires`. One that prints answers whether it could.
+// public function has a `requires`. One that prints answers whether it could; a line after one that could not be written is tried all the same: hence
+// `bool` and `&`, and no `?`.
 #![tactic(auto)]
 
-mod put; // a line, and what it is made of
+mod put; // a line that is being put together
 mod names; // answers by name
 mod file_names; // a file's name, escaped
 mod covers; // what a receipt is of
@@ -23,5 +24,6 @@ pub use lines::{
     numbers_line, section, section_break, totals_line, trace_line, words_line,
 };
 pub use plain::{plain_receipt, plain_totals, plain_unreadable};
+pub use put::{STDERR, STDOUT};
 pub use receipts::{receipt, trace_receipt, unreadable_receipt};
 pub use tallies::{Tally, count_answer, no_answers, tally};

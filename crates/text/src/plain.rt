@@ -1,81 +1,59 @@
-// The receipt as lines of key=value, for scripts.
+// The receipt as lines of key=value, for scripts. Joined by `&`: a line after one that could not be written is tried all the same.
 use crate::covers::Covers;
 use crate::file_names::name_line;
-use crate::put::{ROOM, end_line, number, word};
-use crate::receipts::{lost, remaining, unplaced};
-use ring::{Receipt, Ring};
+use crate::put::{Line, print_line};
+use crate::receipts::{lost, remaining, stops, unplaced};
+use ring::Receipt;
 use rules::state::Size;
+use std::fmt::Display;
 
-fn key_word(key: &[u8], value: &[u8]) -> bool {
-    let mut line = [0u8; ROOM];
-    let mut at = word(&mut line, 0, key);
-    at = word(&mut line, at, b"=");
-    at = word(&mut line, at, value);
-    end_line(&mut line, at)
-}
-
-fn key_number(key: &[u8], n: u64) -> bool {
-    let mut line = [0u8; ROOM];
-    let mut at = word(&mut line, 0, key);
-    at = word(&mut line, at, b"=");
-    at = number(&mut line, at, n);
-    end_line(&mut line, at)
-}
-
-// One of two words.
-fn key_choice(key: &[u8], first: bool, one: &[u8], other: &[u8]) -> bool {
-    if first {
-        key_word(key, one)
-    } else {
-        key_word(key, other)
-    }
+fn key_line<V: Display + Drop>(key: &str, value: V) -> bool {
+    print_line(format_args!("{key}={value}"))
 }
 
 // The set-up; where none was read, there is none to tell.
 fn ring_keys(covers: Covers, size: Size) -> bool {
-    if covers.has_ring() {
-        let mut good = key_number(b"pages", size.pages as u64);
-        good = key_number(b"slots", size.slots as u64) & good;
-        return key_choice(b"mode", size.mode == Ring::STOP, b"stop", b"overwrite") & good;
+    if !covers.has_ring() {
+        return key_line("pages", 0) & key_line("slots", 0) & key_line("mode", "none");
     }
-    let mut good = key_number(b"pages", 0);
-    good = key_number(b"slots", 0) & good;
-    key_word(b"mode", b"none") & good
+    let mode = if stops(size) { "stop" } else { "overwrite" };
+    key_line("pages", size.pages) & key_line("slots", size.slots) & key_line("mode", mode)
 }
 
 fn count_keys(r: Receipt) -> bool {
-    let mut good = key_number(b"begun", r.begun);
-    good = key_number(b"taken", r.taken) & good;
-    good = key_number(b"handed", r.handed) & good;
-    good = key_number(b"overwritten", r.overwritten) & good;
-    good = key_number(b"dropped", r.dropped) & good;
-    good = key_number(b"waiting", r.waiting) & good;
-    good = key_number(b"open", r.open) & good;
-    good = key_number(b"unplaced", unplaced(r)) & good;
-    good = key_number(b"lost", lost(r)) & good;
-    key_number(b"remaining", remaining(r)) & good
+    key_line("begun", r.begun)
+        & key_line("taken", r.taken)
+        & key_line("handed", r.handed)
+        & key_line("overwritten", r.overwritten)
+        & key_line("dropped", r.dropped)
+        & key_line("waiting", r.waiting)
+        & key_line("open", r.open)
+        & key_line("unplaced", unplaced(r))
+        & key_line("lost", lost(r))
+        & key_line("remaining", remaining(r))
 }
 
 // The receipt of a trace, or of what was read of it.
 pub fn plain_receipt(name: &[u8], covers: Covers, size: Size, r: Receipt) -> bool {
-    let mut good = name_line(b"trace=", name, false);
-    good = key_number(b"bytes", covers.bytes) & good;
-    good = key_choice(b"read", covers.is_whole(), b"whole", b"refused") & good;
-    good = key_number(b"refusal", covers.refusal as u64) & good;
-    good = key_number(b"stop", covers.stop) & good;
-    good = ring_keys(covers, size) & good;
-    good = count_keys(r) & good;
-    let complete = covers.is_whole() & r.complete;
-    key_choice(b"complete", complete, b"yes", b"no") & good
+    let is_whole = covers.is_whole();
+    let read = if is_whole { "whole" } else { "refused" };
+    let complete = if is_whole & r.complete { "yes" } else { "no" };
+    name_line(Line::new(), "trace=", name)
+        & key_line("bytes", covers.bytes)
+        & key_line("read", read)
+        & key_line("refusal", covers.number())
+        & key_line("stop", covers.stop)
+        & ring_keys(covers, size)
+        & count_keys(r)
+        & key_line("complete", complete)
 }
 
 // A file that can't be read.
 pub fn plain_unreadable(name: &[u8]) -> bool {
-    let good = name_line(b"trace=", name, false);
-    key_word(b"read", b"unreadable") & good
+    name_line(Line::new(), "trace=", name) & key_line("read", "unreadable")
 }
 
-// How many traces there are, and how many of each kind.
+// How many traces there are, and how many of each kind. Numbers and no struct: what counts them is a type of the replay's.
 pub fn plain_totals(
     all: u64,
     complete: u64,
@@ -83,9 +61,9 @@ pub fn plain_totals(
     refused: u64,
     unreadable: u64,
 ) -> bool {
-    let mut good = key_number(b"traces", all);
-    good = key_number(b"traces_complete", complete) & good;
-    good = key_number(b"traces_not_complete", incomplete) & good;
-    good = key_number(b"traces_refused", refused) & good;
-    key_number(b"traces_unreadable", unreadable) & good
+    key_line("traces", all)
+        & key_line("traces_complete", complete)
+        & key_line("traces_not_complete", incomplete)
+        & key_line("traces_refused", refused)
+        & key_line("traces_unreadable", unreadable)
 }

@@ -2,53 +2,47 @@
 ghost use Rattle.std.specs.Prelude.{◌≡◌};
 ghost use Rattle.text.specs.Tallies.{no_answers, tallied};
 
-use crate::names::name;
-use crate::put::{ROOM, end_line, number, pad, word};
+use crate::names::Kind;
+use crate::put::Line;
 use ring::{Answer, answer_numbers};
-use std::num::wrapping_add_u64;
 
 // How many kinds of answer there are, with each refusal as one of its own.
 const KINDS: usize = 33;
 
-// A count for each kind of answer, by its code.
+// A count for each kind of answer, at its code. An array and no map, since nothing here allocates.
 pub type Tally = [u64; KINDS];
 
 // A tally before any answer.
 pub fn no_answers() -> Tally
     ensures { result ≡ no_answers }
 {
-    [0u64; KINDS]
+    [0; KINDS]
 }
 
 // One more answer of its kind.
 pub fn count_answer(counts: &mut Tally, answer: Answer)
     ensures { counts.new ≡ tallied counts.old answer }
 {
-    let numbers = answer_numbers(answer);
-    let code = numbers.code as usize;
-    counts[code] = wrapping_add_u64(counts[code], 1);
+    let code = answer_numbers(answer).code as usize;
+    counts[code] = counts[code].wrapping_add(1);
 }
 
-// The line of a kind that came, and none for one that did not.
-fn tally_line(code: u32, count: u64) -> bool {
-    if count == 0 {
-        return true;
-    }
-    let mut line = [0u8; ROOM];
-    let mut at = word(&mut line, 0, b"  ");
-    at = name(&mut line, at, code);
-    at = pad(&mut line, at);
-    at = number(&mut line, at, count);
-    end_line(&mut line, at)
+// The line of a kind that came.
+fn tally_line(kind: Kind, count: u64) -> bool {
+    let mut line = Line::new();
+    write!(line, "  {kind}");
+    line.pad();
+    write!(line, "{count}");
+    line.print()
 }
 
-// A line for each kind that came.
+// A line for each kind that came, and none for one that did not. A line after one that could not be written is tried all the same, so `all` would not do.
 pub fn tally(counts: &Tally) -> bool {
     let mut good = true;
-    let mut code: usize = 0;
-    while code < KINDS {
-        good = tally_line(code as u32, counts[code]) & good;
-        code = code + 1;
+    for (code, count) in (0..).zip(counts) {
+        if *count != 0 {
+            good = tally_line(Kind(code), *count) & good;
+        }
     }
     good
 }

@@ -1,26 +1,10 @@
--- What is printed of a receipt is what it is: it adds up to the readings begun, which 64 bits hold with ease. And sums in 64 bits, for the functions
--- that compute what is printed.
--- Assumes nothing.
-use Rattle.std.proofs.Common.{◌≡◌, ℕ, ◌+◌, ◌^◌, ◌≤◌, ◌∙◌, arith}
-use native.Mathlib.Nat.{mod-add-mod, add-mod-mod}
+-- What is printed of a receipt is what it is: it adds up to the readings begun, which 64 bits hold with ease. Assumes nothing.
+use Rattle.std.proofs.Common.{◌≡◌, ℕ, ◌≤◌, arith}
 use Rattle.rules.specs.Limits.{most_count}
 use Rattle.rules.specs.Receipt.{receipt_rule, AddsUp}
 use Rattle.rules.specs.declared.state.Receipt.{Receipt}
 use Rattle.rules.proofs.Receipt.{receipts-add-up}
 use Rattle.text.specs.Receipts.{word64, Printed, ReceiptsPrinted}
-
--- ---- a sum of sums in 64 bits is the sum of all
-
-pub sum_left : (a b : ℕ) → word64 (word64 a + b) ≡ word64 (a + b)
-sum_left a b = mod-add-mod a (2 ^ 64) b
-
-pub sum-right : (a b : ℕ) → word64 (a + word64 b) ≡ word64 (a + b)
-sum-right a b = add-mod-mod a b (2 ^ 64)
-
-pub sum-of-three : (a b c : ℕ) → word64 (word64 (a + word64 b) + word64 c) ≡ word64 (a + b + c)
-sum-of-three a b c = rw (sum-right a b) (sum_left (a + b) (word64 c) ∙ sum-right (a + b) c)
-
--- ---- what is printed
 
 -- a number that is at most a count's limit
 word-is : (n m : ℕ) → n ≤ m → m ≤ most_count → word64 n ≡ n
