@@ -72,24 +72,24 @@ pub struct Counts {
     pub dropped: u64,
 }
 
-// Why an action, a receipt, a set-up or a trace is refused.
+// Why an action, a receipt, a set-up or a trace is refused, by its number in the rules.
 #[derive(Clone, Copy, PartialEq, Eq)]
 pub enum Refusal {
-    Shape,
-    Depth,
-    Nobody,
-    Worn,
-    SetUp,
+    Shape = 1,
+    Depth = 2,
+    Nobody = 3,
+    Worn = 4,
+    SetUp = 5,
     // of a trace: it is too long, or its mark is wrong or cut
-    Mark,
+    Mark = 6,
     // of a trace: its version
-    Version,
+    Version = 7,
     // of a trace: its set-up is cut, or out of range
-    Sizes,
+    Sizes = 8,
     // of a trace: an unknown or cut action
-    Action,
+    Action = 9,
     // the buffer that was lent is too short
-    Room,
+    Room = 10,
 }
 
 // What an action or a set-up answers.
