@@ -1,7 +1,7 @@
 use crate::state::Action;
 
 // What stands at a place.
-#[derive(Clone, Copy, PartialEq, Eq)]
+#[derive(Clone, Copy, Debug, PartialEq, Eq)]
 pub enum Coded {
     // a whole action, and the place after it
     Whole(Action, usize),

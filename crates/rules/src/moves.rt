@@ -2,7 +2,7 @@
 use crate::state::{Answer, PageNo, WriterPhase};
 
 // What a Write does.
-#[derive(Clone, Copy, PartialEq, Eq)]
+#[derive(Clone, Copy, Debug, PartialEq, Eq)]
 pub enum Move {
     // only the record's phase changes
     Become(WriterPhase, Answer),
@@ -26,7 +26,7 @@ pub enum Move {
 }
 
 // What a Read does.
-#[derive(Clone, Copy, PartialEq, Eq)]
+#[derive(Clone, Copy, Debug, PartialEq, Eq)]
 pub enum Fetch {
     // the slot at the read position is handed out
     Event,

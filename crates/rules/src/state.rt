@@ -1,15 +1,15 @@
 // The parts of a ring, and what is asked and answered: types with no function, so that each is read in one place.
 
 // The number of a page, 0 to N. A type of its own, so that it is never taken for a reading's number.
-#[derive(Clone, Copy, PartialEq, Eq)]
+#[derive(Clone, Copy, Debug, PartialEq, Eq)]
 pub struct PageNo(pub u32);
 
 // The number of a reading: the first reading that gets a slot has number 0.
-#[derive(Clone, Copy, PartialEq, Eq)]
+#[derive(Clone, Copy, Debug, PartialEq, Eq)]
 pub struct ReadingNo(pub u32);
 
 // What a writer does next; t is the tail page that it saw, n the page after it.
-#[derive(Clone, Copy, PartialEq, Eq)]
+#[derive(Clone, Copy, Debug, PartialEq, Eq)]
 pub enum WriterPhase {
     Want,
     // t, n
@@ -26,14 +26,14 @@ pub enum WriterPhase {
 }
 
 // A writer's record.
-#[derive(Clone, Copy, PartialEq, Eq)]
+#[derive(Clone, Copy, Debug, PartialEq, Eq)]
 pub struct Writer {
     pub value: u32,
     pub phase: WriterPhase,
 }
 
 // What the reader does next; p is the page whose word was HEADER, h the page in that word.
-#[derive(Clone, Copy, PartialEq, Eq)]
+#[derive(Clone, Copy, Debug, PartialEq, Eq)]
 pub enum ReaderPhase {
     Idle,
     // p, h
@@ -43,7 +43,7 @@ pub enum ReaderPhase {
 }
 
 // The set-up: N ring pages (there is one page more, the reader page), S slots in each page, and the mode.
-#[derive(Clone, Copy, PartialEq, Eq)]
+#[derive(Clone, Copy, Debug, PartialEq, Eq)]
 pub struct Size {
     pub pages: u32,
     pub slots: u32,
@@ -52,7 +52,7 @@ pub struct Size {
 }
 
 // Where the ring stands: reader page, tail page, commit page with the commit index, and the read position on the reader page.
-#[derive(Clone, Copy, PartialEq, Eq)]
+#[derive(Clone, Copy, Debug, PartialEq, Eq)]
 pub struct Places {
     pub reader: PageNo,
     pub tail: PageNo,
@@ -62,7 +62,7 @@ pub struct Places {
 }
 
 // The counts. 64 bits wide, since a count that a step takes past 4,294,967,295 is kept as it is.
-#[derive(Clone, Copy, PartialEq, Eq)]
+#[derive(Clone, Copy, Debug, PartialEq, Eq)]
 pub struct Counts {
     pub begun: u64,
     pub taken: u64,
@@ -73,7 +73,7 @@ pub struct Counts {
 }
 
 // Why an action, a receipt, a set-up or a trace is refused, by its number in the rules.
-#[derive(Clone, Copy, PartialEq, Eq)]
+#[derive(Clone, Copy, Debug, PartialEq, Eq)]
 pub enum Refusal {
     Shape = 1,
     Depth = 2,
@@ -93,7 +93,7 @@ pub enum Refusal {
 }
 
 // What an action or a set-up answers.
-#[derive(Clone, Copy, PartialEq, Eq)]
+#[derive(Clone, Copy, Debug, PartialEq, Eq)]
 pub enum Answer {
     // a set-up that is not refused
     Accepted,
@@ -126,7 +126,7 @@ pub enum Answer {
 }
 
 // One action.
-#[derive(Clone, Copy, PartialEq, Eq)]
+#[derive(Clone, Copy, Debug, PartialEq, Eq)]
 pub enum Action {
     Begin(u32),
     Write,
@@ -134,7 +134,7 @@ pub enum Action {
 }
 
 // The receipt. A refused receipt says why, and is else all zero and not complete.
-#[derive(Clone, Copy, PartialEq, Eq)]
+#[derive(Clone, Copy, Debug, PartialEq, Eq)]
 pub struct Receipt {
     pub refusal: Option<Refusal>,
     pub begun: u64,
