@@ -1,6 +1,6 @@
 use crate::state::Action;
 
-// What stands at a place.
+// What stands at a place. An enum of its own and no Option or Result: an end is no action, and no broken one either.
 #[derive(Clone, Copy, Debug, PartialEq, Eq)]
 pub enum Coded {
     // a whole action, and the place after it
@@ -12,6 +12,7 @@ pub enum Coded {
 }
 
 impl Action {
+    // The first byte of a Begin, of a Write and of a Read. Bytes and no enum: they are what a trace holds, where any other byte may stand.
     pub const BEGIN: u8 = 1;
 
     pub const WRITE: u8 = 2;

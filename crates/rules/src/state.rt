@@ -14,7 +14,7 @@ pub enum WriterPhase {
     Want,
     // t, n
     Mark(PageNo, PageNo),
-    // t, n, and whether the update mark is its own
+    // t, n, and whether the update mark is its own: no more than yes or no, so a bool
     Promote(PageNo, PageNo, bool),
     // t, n
     Clear(PageNo, PageNo),
