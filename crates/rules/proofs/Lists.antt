@@ -1,7 +1,7 @@
 -- Laws of the tests and lists of specs/Lists: what `every`, `all_below` and `least` tell, and what a tabulated list holds; and case splits on tests.
 -- Assumes nothing.
 use mathlib.Core.Path.{◌≡◌, refl, sym, ap, ◌∙◌}
-use mathlib.Core.Bool.{Bool, true, false, cond, ◌&&◌, ◌||◌, true≢false}
+use mathlib.Core.Bool.{Bool, true, false, cond, ◌&&◌, true≢false}
 use mathlib.Core.List.{List, [], ◌∷◌}
 use Prim.Native.Nat.{ℕ, zero, suc, ◌≤◌, ◌<◌}
 use native.Mathlib.Omega.{arith}
@@ -10,6 +10,7 @@ use borrow.Author.Tests.{ltb-true, ltb-false, eqb-true, eqb-false}
 use lib.Dec.{eqb, ltb}
 use lib.ListN.{length, get_or, replicate, length-append, get_or-append}
 use lib.Seq.{get_or-append_seam}
+use Rattle.std.proofs.lemmas.Bool.{and_from, and_parts}
 use Rattle.std.specs.Prelude.{Some, None}
 use Rattle.rules.specs.Lists.{and_then, every, all, all_below, least, tabulate}
 
@@ -32,29 +33,15 @@ by_cond P false f g = g refl
 
 -- ---- tests taken together
 
-pub and_left : (a b : Bool) → a && b ≡ true → a ≡ true
-and_left true b h = refl
-and_left false b h = h
-
-pub and_right : (a b : Bool) → a && b ≡ true → b ≡ true
-and_right true b h = h
-and_right false b h = absurd (true≢false (sym h))
-
-pub and_both : {a b : Bool} → a ≡ true → b ≡ true → a && b ≡ true
-and_both h e = rw h e
-
 pub and-three : (a b c : Bool) → (a && b) && c ≡ true → (a ≡ true) × (b ≡ true) × (c ≡ true)
 and-three a b c h =
-    let both = and_left (a && b) c h in
-    (and_left a b both, and_right a b both, and_right (a && b) c h)
+    let both = and_parts (a && b) c h in
+    let two = and_parts a b both.0 in
+    (two.0, two.1, both.1)
 
 pub and-false : (a b : Bool) → a && b ≡ false → a ≡ true → b ≡ false
 and-false true b h e = h
 and-false false b h e = absurd (true≢false (sym e))
-
-pub or-false : (a b : Bool) → a || b ≡ false → (a ≡ false) × (b ≡ false)
-or-false true b h = absurd (true≢false h)
-or-false false b h = (refl, h)
 
 -- each test of a list passes
 abbrev pub Each : List Bool → Type 0
@@ -65,7 +52,8 @@ each_from : (a : Bool) (bs : List Bool) → and_then a bs ≡ true → (a ≡ tr
 each_from a [] h = (h, tt)
 each_from a (b ∷ bs) h =
     let r = each_from (a && b) bs h in
-    (and_left a b r.0, (and_right a b r.0, r.1))
+    let both = and_parts a b r.0 in
+    (both.0, (both.1, r.1))
 
 pub each : (bs : List Bool) → every bs ≡ true → Each bs
 each [] h = tt
@@ -73,7 +61,7 @@ each (b ∷ bs) h = each_from b bs h
 
 every-from : (a : Bool) (bs : List Bool) → a ≡ true → Each bs → and_then a bs ≡ true
 every-from a [] h e = h
-every-from a (b ∷ bs) h e = every-from (a && b) bs (and_both h e.0) e.1
+every-from a (b ∷ bs) h e = every-from (a && b) bs (and_from a b h e.0) e.1
 
 pub every-each : (bs : List Bool) → Each bs → every bs ≡ true
 every-each [] e = refl
@@ -86,8 +74,8 @@ module _ (f : ℕ → Bool) where
   all_below-at zero i h l = absurd (omega arith)
   all_below-at (suc m) i h l =
       by-eq i m
-      (λ q. rw q (and_right (all_below m f) (f m) h))
-      (λ n. all_below-at m i (and_left (all_below m f) (f m) h) (omega arith))
+      (λ q. rw q (and_parts (all_below m f) (f m) h).1)
+      (λ n. all_below-at m i (and_parts (all_below m f) (f m) h).0 (omega arith))
 
   pub all_below-all : (m : ℕ) → ((i : ℕ) → i < m → f i ≡ true) → all_below m f ≡ true
   all_below-all zero h = refl

@@ -6,6 +6,7 @@ use Prim.Native.Nat.{ℕ, ◌+◌, ◌≤◌}
 use native.Mathlib.Omega.{arith}
 use borrow.Author.Tests.{lt-ltb, le-leb, ne_eqb}
 use lib.ListN.{get_or}
+use Rattle.std.proofs.lemmas.Bool.{and_from}
 use Rattle.rules.specs.Limits.{least_pages, most_pages, least_slots, most_slots, most_depth, most_count, stop_mode, both_flags}
 use Rattle.rules.specs.Shape.{size_tests, size_fits, places_fit, counts_fit, pages_fit, held_tests, held_fits, writer_fits, reader_fits, record_fits_at, stack_fits, word_fits_at, words_fit, used_fits_at, used_fit, number_fits, numbers_fit, layout_tests, layout_fits, in_shape}
 use Rattle.rules.specs.Remember.{History}
@@ -15,7 +16,7 @@ use Rattle.rules.specs.declared.state.WriterPhase.{WriterPhase}
 use Rattle.rules.specs.declared.state.WriterPhase.TheVariants as phase
 use Rattle.rules.specs.declared.state.ReaderPhase.{ReaderPhase}
 use Rattle.rules.specs.declared.state.ReaderPhase.TheVariants as reading
-use Rattle.rules.proofs.Lists.{by-eq, and_both, every-each, all_below-all, all_get_d}
+use Rattle.rules.proofs.Lists.{by-eq, every-each, all_below-all, all_get_d}
 use Rattle.rules.proofs.invariant.Order.{N, S, R, C, next_of, flag_of, used_of, phase_at, stored_at, place}
 use Rattle.rules.proofs.invariant.Control.{Moving, RecordOk, ReaderOk, Control}
 use Rattle.rules.proofs.invariant.Accounts.{Holding, HeldOk, Accounts}
@@ -82,7 +83,7 @@ module _ {s : State} {h : History} {L : ℕ → ℕ} {pc pt a r0 gap : ℕ} (v :
 
   stack-fits : stack_fits s.stack s.depth s.size ≡ true
   stack-fits =
-      and_both
+      and_from _ _
       (le-leb s.depth most_depth (omega (arith, v.depth, b.stack_room)))
       (all_below-all (record_fits_at s.stack s.size) s.depth
       (λ i hi. record-fits (phase_at s.stack i) (stored_at s.stack i) (v.records i hi) (b.values.held i hi) (k.aims i hi)))
@@ -91,7 +92,7 @@ module _ {s : State} {h : History} {L : ℕ → ℕ} {pc pt a r0 gap : ℕ} (v :
 
   word-fits : (p : ℕ) → p ≤ N s → word_fits_at s.words (N s) p ≡ true
   word-fits p hp =
-      and_both
+      and_from _ _
       (le-leb (next_of s.words p) (N s) (words-fit v k p hp))
       (rw (ne_eqb (flag_of s.words p) both_flags (omega (arith, v.owners.small p hp))))
 
@@ -133,4 +134,4 @@ module _ {s : State} {h : History} {L : ℕ → ℕ} {pc pt a r0 gap : ℕ} (v :
 
   pub invariant-in_shape : in_shape s ≡ true
   unfolding in_shape
-  invariant-in_shape = and_both (and_both counts-fit layout) numbers-fit
+  invariant-in_shape = and_from _ _ (and_from _ _ counts-fit layout) numbers-fit

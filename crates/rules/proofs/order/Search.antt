@@ -8,12 +8,13 @@ use Prim.Native.Nat.{ℕ, zero, suc, ◌+◌, ◌≤◌, ◌<◌}
 use native.Mathlib.Omega.{arith}
 use borrow.Author.Tests.{eqb-true, eqb-false, not-true, eq-eqb, ne_eqb}
 use lib.Dec.{eqb}
+use Rattle.std.proofs.lemmas.Bool.{and_parts}
 use Rattle.std.specs.Prelude.{Option, Some, None}
 use Rattle.rules.specs.Lists.{or_at, least}
 use Rattle.rules.specs.State.{page}
 use Rattle.rules.specs.Words.{same_page, heads, found_at, find_header}
 use Rattle.rules.specs.declared.state.PageNo.{PageNo}
-use Rattle.rules.proofs.Lists.{by-eq, and_left, and_right}
+use Rattle.rules.proofs.Lists.{by-eq}
 use Rattle.rules.proofs.invariant.Order.{next_of, flag_of}
 
 -- a number below k that passes, or that none does
@@ -37,10 +38,10 @@ Tells words N R None = (p : ℕ) → p ≤ N → p ≢ R → flag_of words p ≢
 
 -- a page that the search stops at is not the reader page
 heads-off : (words : List ℕ) (reader : PageNo) (p : ℕ) → heads words reader p ≡ true → p ≢ reader.0
-heads-off words reader p h = eqb-false p reader.0 (not-true (eqb p reader.0) (and_left _ _ h))
+heads-off words reader p h = eqb-false p reader.0 (not-true (eqb p reader.0) (and_parts _ _ h).0)
 
 heads-marked : (words : List ℕ) (reader : PageNo) (p : ℕ) → heads words reader p ≡ true → flag_of words p ≡ 1
-heads-marked words reader p h = eqb-true (flag_of words p) 1 (and_right (not (same_page (page p) reader)) _ h)
+heads-marked words reader p h = eqb-true (flag_of words p) 1 (and_parts (not (same_page (page p) reader)) _ h).1
 
 heads-false : (words : List ℕ) (reader : PageNo) (p : ℕ) → heads words reader p ≡ false → p ≢ reader.0 → flag_of words p ≢ 1
 heads-false words reader p h n f = true≢false (sym (rw (ne_eqb p reader.0 n, eq-eqb (flag_of words p) 1 f) refl) ∙ h)

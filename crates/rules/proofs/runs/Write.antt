@@ -8,6 +8,7 @@ use native.Mathlib.Omega.{arith}
 use borrow.Author.Tests.{ltb-true, ltb-false, eqb-true, eqb-false, eq-eqb}
 use lib.Dec.{eqb, ltb}
 use lib.ListN.{length, get_or, set}
+use Rattle.std.proofs.lemmas.Bool.{or_parts}
 use Rattle.std.specs.Prelude.{Option, Some, None}
 use Rattle.rules.specs.Limits.{stop_mode, header_flag, update_flag}
 use Rattle.rules.specs.State.{page, no_writer, word_at, used_at, top, set_phase, pop, State}
@@ -23,7 +24,7 @@ use Rattle.rules.specs.declared.state.Writer.{Writer}
 use Rattle.rules.specs.declared.state.Answer.TheVariants as answer
 use Rattle.rules.specs.declared.moves.Move.{Move}
 use Rattle.rules.specs.declared.moves.Move.TheVariants as move
-use Rattle.rules.proofs.Lists.{by_bool, by-eq, by_cond, and-false, or-false}
+use Rattle.rules.proofs.Lists.{by_bool, by-eq, by_cond, and-false}
 use Rattle.rules.proofs.invariant.Order.{N, S, R, T, top_at, next_of, flag_of, used_of, phase_at, rephase, Mark, Promote, Clear, Push, Held, turn}
 use Rattle.rules.proofs.invariant.Control.{Owns, Free, Control}
 use Rattle.rules.proofs.invariant.Accounts.{early, Accounts}
@@ -166,7 +167,7 @@ module _ (x : ℕ) {s : State} {h : History} (g : Invariant s h) (deep : 1 ≤ s
     -- neither HEADER nor UPDATE
     flag-normal : eqb flag header_flag || eqb flag update_flag ≡ false → flag_of s.words (T s) ≡ 0
     flag-normal neither =
-        let no = or-false (eqb flag header_flag) (eqb flag update_flag) neither in
+        let no = or_parts (eqb flag header_flag) (eqb flag update_flag) neither in
         omega (arith, v.owners.small (T s) (tail-le v), eqb-false flag header_flag no.0, eqb-false flag update_flag no.1)
 
     full-next : S s ≤ used_of s (T s) → After (plan_full s.size s.places s.depth n flag)

@@ -7,13 +7,14 @@ use native.Mathlib.Omega.{arith}
 use borrow.Author.Tests.{leb-true, le-leb, ne_eqb}
 use lib.Dec.{leb-zero}
 use lib.ListN.{replicate, get_or-replicate}
+use Rattle.std.proofs.lemmas.Bool.{and_from}
 use Rattle.rules.specs.Limits.{most_pages, page_room, both_flags}
 use Rattle.rules.specs.State.{size_of}
 use Rattle.rules.specs.Shape.{size_tests, size_fits, place_tests, places_fit, word_fits, word_fits_at, words_fit, used_fits_at, used_fit, numbers_fit, layout_tests, layout_fits, in_shape}
 use Rattle.rules.specs.SetUp.{fresh_word, fresh_words, fresh_ring, plain_ring, fresh_rule}
 use Rattle.rules.specs.Receipt.{receipt_rule, fresh_receipt}
 use Rattle.rules.specs.declared.state.Size.{Size}
-use Rattle.rules.proofs.Lists.{by_bool, each, and_both, every-each, all_below-all, get_d_tabulate}
+use Rattle.rules.proofs.Lists.{by_bool, each, every-each, all_below-all, get_d_tabulate}
 use Rattle.rules.proofs.setup.Laws.{fresh_next-pages, fresh_flag-most}
 
 word-fits : (n i : ℕ) → word_fits (fresh_word n i) n ≡ true
@@ -52,7 +53,7 @@ module _ (size : Size) (fits : size_fits size ≡ true) where
   unfolding in_shape layout_fits numbers_fit
   fresh-in_shape =
       let r = fresh_ring size in
-      and_both
+      and_from _ _
       (every-each (layout_tests r.size r.places r.reader r.stack r.depth r.words r.used)
       (fits, (places, (refl, (refl, (words, (used, tt)))))))
       refl

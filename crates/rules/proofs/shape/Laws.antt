@@ -6,6 +6,7 @@ use Prim.Native.Nat.{ℕ, ◌+◌, ◌≤◌, ◌<◌}
 use native.Mathlib.Omega.{arith}
 use borrow.Author.Tests.{leb-true, ltb-true, le-leb}
 use lib.Dec.{leb}
+use Rattle.std.proofs.lemmas.Bool.{and_from, and_parts}
 use Rattle.rules.specs.Limits.{least_pages, most_pages, least_slots, most_slots, most_depth, most_count, stop_mode}
 use Rattle.rules.specs.Lists.{all_below}
 use Rattle.rules.specs.State.{page, used_at, State}
@@ -14,7 +15,7 @@ use Rattle.rules.specs.declared.state.PageNo.{PageNo}
 use Rattle.rules.specs.declared.state.Size.{Size}
 use Rattle.rules.specs.declared.state.Places.{Places}
 use Rattle.rules.specs.declared.state.Counts.{Counts}
-use Rattle.rules.proofs.Lists.{each, every-each, and_left, and_right, and_both, all_below-at}
+use Rattle.rules.proofs.Lists.{each, every-each, all_below-at}
 
 pub record InShape (r : State) : Type 0 where
   pub pages_least : least_pages ≤ r.size.pages
@@ -73,7 +74,7 @@ pub counts-true :
     c.taken + c.dropped ≤ c.begun →
     counts_fit c ≡ true
 counts-true c b h t d =
-    and_both
+    and_from (counts_small c) (counts_agree c)
     (every-each (small_tests c) (
       le-leb c.begun most_count b,
       (
@@ -109,17 +110,16 @@ module _ (r : State) where
   pub in-shape : in_shape r ≡ true → InShape r
   unfolding in_shape layout_fits
   in-shape whole =
-      let h = and_left (ring_fits r) (numbers_fit r.numbers) whole in
+      let h = and_parts (ring_fits r) (numbers_fit r.numbers) whole in
       let l = layout_fits r.size r.places r.reader r.stack r.depth r.words r.used in
-      let c = and_left (counts_fit r.counts) l h in
-      let e = each (layout_tests r.size r.places r.reader r.stack r.depth r.words r.used) (and_right (counts_fit r.counts) l h) in
+      let f = and_parts (counts_fit r.counts) l h.0 in
+      let c = and_parts (counts_small r.counts) (counts_agree r.counts) f.0 in
+      let e = each (layout_tests r.size r.places r.reader r.stack r.depth r.words r.used) f.1 in
       let s = each (size_tests r.size) e.0 in
       let p = each (place_tests r.places r.size) e.1.0 in
-      let k = each (small_tests r.counts) (and_left (counts_small r.counts) (counts_agree r.counts) c) in
-      let a = each (agree_tests r.counts) (and_right (counts_small r.counts) (counts_agree r.counts) c) in
-      let d = e.1.1.1.0 in
-      let records : all_below r.depth (record_fits_at r.stack r.size) ≡ true =
-      and_right (leb r.depth most_depth) (all_below r.depth (record_fits_at r.stack r.size)) d in
+      let k = each (small_tests r.counts) c.0 in
+      let a = each (agree_tests r.counts) c.1 in
+      let d = and_parts (leb r.depth most_depth) (all_below r.depth (record_fits_at r.stack r.size)) e.1.1.1.0 in
       record {
         pages_least = leb-true _ _ s.0;
         pages_most = leb-true _ _ s.1.0;
@@ -141,8 +141,8 @@ module _ (r : State) where
         committed_taken = leb-true _ _ a.1.0;
         taken_dropped = leb-true _ _ a.1.1.0;
         phase = e.1.1.0;
-        depth = leb-true _ _ (and_left (leb r.depth most_depth) (all_below r.depth (record_fits_at r.stack r.size)) d);
-        record_at = λ i l. all_below-at (record_fits_at r.stack r.size) r.depth i records l;
+        depth = leb-true _ _ d.0;
+        record_at = λ i l. all_below-at (record_fits_at r.stack r.size) r.depth i d.1 l;
         word_at = λ i l. all_below-at (word_fits_at r.words r.size.pages) (r.size.pages + 1) i e.1.1.1.1.0 (omega arith);
         used_at = λ i l. leb-true _ _ (all_below-at (used_fits_at r.used r.size.slots) (r.size.pages + 1) i e.1.1.1.1.1.0 (omega arith));
       }
