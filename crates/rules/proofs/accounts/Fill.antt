@@ -20,17 +20,6 @@ use Rattle.rules.proofs.accounts.Phase.{held-top, unheld, balance-top, earlies-s
 use Rattle.rules.proofs.control.Phase.{placed-le}
 use Rattle.rules.proofs.order.Places.{page-once}
 
-held-page : {p q i j : ℕ} → Held p i ≡ Held q j → p ≡ q
-held-page y =
-    let same = page-of y in
-    page-once same
-  where
-    page-of : {p q i j : ℕ} → Held p i ≡ Held q j → page p ≡ page q
-    page-of y = cc
-
-held-slot : {p q i j : ℕ} → Held p i ≡ Held q j → i ≡ j
-held-slot y = cc
-
 module _ {s : State} {h : History} {L : ℕ → ℕ} {pc pt a r0 gap : ℕ} (v : Control s L pc pt) (b : Accounts s h L pc pt a r0 gap) (deep : 1 ≤ s.depth)
     (p j : ℕ) (phase-is : (top s).phase ≡ Held p j) where
   abbrev value : ℕ
@@ -70,7 +59,9 @@ module _ {s : State} {h : History} {L : ℕ → ℕ} {pc pt a r0 gap : ℕ} (v :
       ∙ b.values.stored q i hq hi (unheld b deep v.depth filled q i (λ y. other (moved (sym phase-is ∙ y))) free))
     where
       moved : Held p j ≡ Held q i → cell (S s) q i ≡ cell (S s) p j
-      moved y = ap (λ (k : ℕ). cell (S s) k i) (sym (held-page y)) ∙ ap (cell (S s) p) (sym (held-slot y))
+      moved y =
+          let same : p ≡ q = page-once cc in
+          cc
 
   pub filled-accounts : Accounts (fill (page p) j s) h L pc pt a r0 gap
   filled-accounts =

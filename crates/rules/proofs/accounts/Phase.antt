@@ -22,22 +22,9 @@ pub early-not-held : {ph : WriterPhase} (p j : ℕ) → early ph ≡ 1 → ph �
 early-not-held p j was z = omega (arith, ap early z)
 
 module _ {s : State} {h : History} {L : ℕ → ℕ} {pc pt a r0 gap : ℕ} (b : Accounts s h L pc pt a r0 gap) where
-  -- no clause reads the words
-  pub words-accounts : (words : List ℕ) → Accounts (with_words words s) h L pc pt a r0 gap
-  words-accounts words =
-      record {
-        contents = b.contents;
-        sums = b.sums;
-        values = b.values;
-        quiet = b.quiet;
-        recorded = b.recorded;
-        work = b.work;
-        balance = b.balance;
-        stack_room = b.stack_room;
-      }
-
-  pub reader-accounts : (ph : ReaderPhase) → Quiet ph s.places.position (used_of s (R s)) → Accounts (with_reader ph s) h L pc pt a r0 gap
-  reader-accounts ph q =
+  -- no clause reads the words, and one reads the reader's phase
+  pub read-accounts : (words : List ℕ) (ph : ReaderPhase) → Quiet ph s.places.position (used_of s (R s)) → Accounts (with_words words (with_reader ph s)) h L pc pt a r0 gap
+  read-accounts words ph q =
       record {
         contents = b.contents;
         sums = b.sums;
@@ -48,6 +35,12 @@ module _ {s : State} {h : History} {L : ℕ → ℕ} {pc pt a r0 gap : ℕ} (b :
         balance = b.balance;
         stack_room = b.stack_room;
       }
+
+  pub words-accounts : (words : List ℕ) → Accounts (with_words words s) h L pc pt a r0 gap
+  words-accounts words = read-accounts words s.reader b.quiet
+
+  pub reader-accounts : (ph : ReaderPhase) → Quiet ph s.places.position (used_of s (R s)) → Accounts (with_reader ph s) h L pc pt a r0 gap
+  reader-accounts ph q = read-accounts s.words ph q
 
   module _ (deep : 1 ≤ s.depth) (room : s.depth ≤ length s.stack) where
     abbrev Ok : ℕ → WriterPhase → Type 0

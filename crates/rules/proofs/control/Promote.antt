@@ -38,10 +38,7 @@ after-ok words used N S P pc pt false t n r = r
 -- ---- (t, n) of the record, where it is the owner or above it
 
 owner-pages : (a b t n : ℕ) (own : Bool) → Promote t n own ≡ Promote a b true → (t ≡ a) × (n ≡ b)
-owner-pages a b t n own q =
-    let first : page t ≡ page a = cc in
-    let second : page n ≡ page b = cc in
-    (page-once first, page-once second)
+owner-pages a b t n own q = (page-once cc, page-once cc)
 
 above-pages : (a b t n : ℕ) (own : Bool) → Above a b (Promote t n own) → (t ≡ a) × (n ≡ b)
 above-pages a b t n true q = absurd q
