@@ -18,7 +18,7 @@ use Rattle.rules.specs.declared.state.WriterPhase.{WriterPhase}
 use Rattle.rules.specs.declared.state.WriterPhase.TheVariants as phase
 use Rattle.rules.specs.declared.state.Writer.{Writer}
 use Rattle.rules.proofs.Lists.{by-eq, by-lt}
-use Rattle.rules.proofs.invariant.Order.{N, R, top_at, next_of, rephase, Found, Ready, Links}
+use Rattle.rules.proofs.invariant.Order.{N, R, top_at, next_of, phase_at, rephase, Found, Ready, Links}
 use Rattle.rules.proofs.invariant.Control.{ReaderOk, Control}
 use Rattle.rules.proofs.invariant.Bounds.{AimFits, Bounds, BoundsOf}
 use Rattle.rules.proofs.order.Records.{reflag, phase-other, records-set}
@@ -55,23 +55,22 @@ reworded : {N mode begun taken R R' : ℕ} {words words' numbers : List ℕ} {st
     → Bounds N mode begun taken R words numbers stack depth → next_of words' R' ≤ N → Bounds N mode begun taken R' words' numbers stack depth
 reworded k h = record { mode_fits = k.mode_fits; begun_fits = k.begun_fits; numbers_fit = k.numbers_fit; reader_fits = h; aims = k.aims }
 
+-- ---- the stack changes
+
+restacked : {N mode begun taken R : ℕ} {words numbers : List ℕ} {stack stack' : List Writer} {depth depth' : ℕ}
+    → Bounds N mode begun taken R words numbers stack depth → ((i : ℕ) → i < depth' → AimFits N (phase_at stack' i))
+    → Bounds N mode begun taken R words numbers stack' depth'
+restacked k aims = record { mode_fits = k.mode_fits; begun_fits = k.begun_fits; numbers_fit = k.numbers_fit; reader_fits = k.reader_fits; aims = aims }
+
 module _ (s : State) (k : BoundsOf s) where
   -- one flag changed
   pub bounds-flag : (y n f : ℕ) → f < 4 → next_of s.words y ≡ n → BoundsOf (with_words (set s.words y (4 * n + f)) s)
   bounds-flag y n f hf q = reworded k (rw (next-same s.words y n f (R s) hf q) k.reader_fits)
 
-  -- ---- the stack changes
-
   -- the top record gets another phase
   pub bounds-phase : 1 ≤ s.depth → s.depth ≤ length s.stack → (ph : WriterPhase) → AimFits (N s) ph → BoundsOf (set_phase ph s)
   bounds-phase some room ph f =
-      record {
-        mode_fits = k.mode_fits;
-        begun_fits = k.begun_fits;
-        numbers_fit = k.numbers_fit;
-        reader_fits = k.reader_fits;
-        aims = records-set (AimFits (N s)) s.stack s.depth (top_at s) (rephase s.stack (top_at s) ph) (omega arith) (λ i hi n. k.aims i hi) f;
-      }
+      restacked k (records-set (AimFits (N s)) s.stack s.depth (top_at s) (rephase s.stack (top_at s) ph) (omega arith) (λ i hi n. k.aims i hi) f)
 
   pub bounds-reserve : 1 ≤ s.depth → s.depth ≤ length s.stack → (t : PageNo) (slot : ℕ) → BoundsOf (reserve t slot s)
   bounds-reserve some room t slot =
@@ -87,13 +86,7 @@ module _ (s : State) (k : BoundsOf s) where
   -- the top record is popped: all that a Pending, a drop and a commit change of it
   pub bounds-pop : BoundsOf (pop s)
   bounds-pop =
-      record {
-        mode_fits = k.mode_fits;
-        begun_fits = k.begun_fits;
-        numbers_fit = k.numbers_fit;
-        reader_fits = k.reader_fits;
-        aims = λ i hi. rw (phase-other s.stack (top_at s) i no_writer (omega arith)) (k.aims i (omega arith));
-      }
+      restacked k (λ i hi. rw (phase-other s.stack (top_at s) i no_writer (omega arith)) (k.aims i (omega arith)))
 
   pub bounds-begin : s.depth < length s.stack → s.counts.begun ≢ most_count → (v : ℕ) → BoundsOf (begin v s).state
   bounds-begin room more v =

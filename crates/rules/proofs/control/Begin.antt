@@ -14,7 +14,7 @@ use Rattle.rules.specs.declared.state.Writer.{Writer}
 use Rattle.rules.proofs.Lists.{by-eq}
 use Rattle.rules.proofs.invariant.Order.{N, R, phase_at, place}
 use Rattle.rules.proofs.invariant.Control.{Owns, Above, headed, headless, RecordIn, FlagsIn, OwnersIn, Control}
-use Rattle.rules.proofs.control.Phase.{headless-records}
+use Rattle.rules.proofs.control.Phase.{headless-records, stack-control}
 use Rattle.rules.proofs.order.Records.{phase-same, phase-other}
 
 module _ {s : State} {L : ℕ → ℕ} {pc pt : ℕ} (v : Control s L pc pt) (b : ℕ) (room : s.depth < length s.stack) where
@@ -66,13 +66,5 @@ module _ {s : State} {L : ℕ → ℕ} {pc pt : ℕ} (v : Control s L pc pt) (b 
 
   pub begun-control : Control (begin b s).state L pc pt
   begun-control =
-      record {
-        links = v.links;
-        order = v.order;
-        joined = v.joined;
-        flags = flags-kept v.flags;
-        owners = owners-kept;
-        depth = rw (length-set s.stack s.depth new) (omega arith);
-        records = λ i hi. each-record (RecordIn s L pc pt) tt i hi (v.records i);
-        reader = v.reader;
-      }
+      stack-control v _ _ _ (flags-kept v.flags) owners-kept (rw (length-set s.stack s.depth new) (omega arith))
+      (λ i hi. each-record (RecordIn s L pc pt) tt i hi (v.records i))

@@ -8,7 +8,7 @@ use mathlib.Core.List.{List}
 use Prim.Native.Nat.{ℕ, ◌-◌, ◌≤◌, ◌<◌}
 use native.Mathlib.Omega.{arith}
 use lib.ListN.{length, set, length-set}
-use Rattle.rules.specs.State.{top, with_counts, with_position, with_reader, with_values, set_phase, State}
+use Rattle.rules.specs.State.{top, with_counts, with_depth, with_position, with_reader, with_stack, with_values, set_phase, State}
 use Rattle.rules.specs.declared.state.WriterPhase.{WriterPhase}
 use Rattle.rules.specs.declared.state.WriterPhase.TheVariants as phase
 use Rattle.rules.specs.declared.state.Writer.{Writer}
@@ -79,6 +79,22 @@ module _ {s : State} {L : ℕ → ℕ} {pc pt : ℕ} (v : Control s L pc pt) whe
   pub newest-off : P (N s) ≢ R s
   newest-off = place-off v.links.cycle (N s) (omega (arith, v.links.cycle.two))
 
+  -- other records: the flags and the owners are all that reads them beside
+  pub stack-control : (counts : Counts) (depth : ℕ) (stack : List Writer) → Flags s.words (N s) P (T s) pc stack depth → Owners s.words (N s) stack depth
+      → depth ≤ length stack → ((i : ℕ) → i < depth → RecordIn s L pc pt (phase_at stack i))
+      → Control (with_counts counts (with_depth depth (with_stack stack s))) L pc pt
+  stack-control counts depth stack flags owners room records =
+      record {
+        links = v.links;
+        order = v.order;
+        joined = v.joined;
+        flags = flags;
+        owners = owners;
+        depth = room;
+        records = records;
+        reader = v.reader;
+      }
+
   -- another phase of the reader; no clause reads the counts, the read position or the values
   pub reader-control : (counts : Counts) (position : ℕ) (values : List ℕ) (ph : ReaderPhase) → ReaderIn (with_reader ph s) pc
       → Control (with_reader ph (with_counts counts (with_position position (with_values values s)))) L pc pt
@@ -143,16 +159,8 @@ module _ {s : State} {L : ℕ → ℕ} {pc pt : ℕ} (v : Control s L pc pt) whe
         → (HeadlessIn s L pc → Above (P (N s - 1)) (P (N s)) ph) → Control (set_phase ph s) L pc pt
     phase-control ph was is ok fit =
         let w = rephase s.stack (top_at s) ph in
-        record {
-          links = v.links;
-          order = v.order;
-          joined = v.joined;
-          flags = flags-set w was fit v.flags;
-          owners = owners-free w was is;
-          depth = rw (length-set s.stack (top_at s) w) v.depth;
-          records = records-set (RecordIn s L pc pt) s.stack s.depth (top_at s) w top_below (λ i hi n. v.records i hi) ok;
-          reader = v.reader;
-        }
+        stack-control _ _ _ (flags-set w was fit v.flags) (owners-free w was is) (rw (length-set s.stack (top_at s) w) v.depth)
+        (records-set (RecordIn s L pc pt) s.stack s.depth (top_at s) w top_below (λ i hi n. v.records i hi) ok)
 
     -- to WANT, which may stand above any owner: Retry and Passed
     pub want-control : Free (top s).phase → Control (set_phase phase.Want s) L pc pt

@@ -12,7 +12,7 @@ use Rattle.rules.specs.declared.state.WriterPhase.TheVariants as phase
 use Rattle.rules.specs.declared.state.Writer.{Writer}
 use Rattle.rules.proofs.invariant.Order.{N, R, T, top_at, phase_at, place}
 use Rattle.rules.proofs.invariant.Control.{Owns, Free, Owners, Flags, headed, headless, FlagsIn, Control}
-use Rattle.rules.proofs.control.Phase.{headless-records, unread-control, not-owner}
+use Rattle.rules.proofs.control.Phase.{headless-records, stack-control, unread-control, not-owner}
 use Rattle.rules.proofs.order.Records.{phase-other}
 
 module _ {s : State} {L : ℕ → ℕ} {pc pt : ℕ} (v : Control s L pc pt) (deep : 1 ≤ s.depth) where
@@ -44,16 +44,8 @@ module _ {s : State} {L : ℕ → ℕ} {pc pt : ℕ} (v : Control s L pc pt) (de
   -- the pop alone: all of Pending, and the first part of Dropped and Committed
   popped-control : Free (top s).phase → Control (pop s) L pc pt
   popped-control free =
-      record {
-        links = v.links;
-        order = v.order;
-        joined = v.joined;
-        flags = flags-kept free v.flags;
-        owners = owners-kept free;
-        depth = rw (length-set s.stack (top_at s) no_writer) (omega (arith, v.depth));
-        records = λ i hi. rw (below_top i hi) (v.records i (omega arith));
-        reader = v.reader;
-      }
+      stack-control v _ _ _ (flags-kept free v.flags) (owners-kept free) (rw (length-set s.stack (top_at s) no_writer) (omega (arith, v.depth)))
+      (λ i hi. rw (below_top i hi) (v.records i (omega arith)))
 
   pub finished-control : (top s).phase ≡ phase.Filled → Control (pop s) L pc pt
   finished-control ph = popped-control (subst Free (sym ph) (λ p o. o))

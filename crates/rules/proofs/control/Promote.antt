@@ -15,7 +15,7 @@ use Rattle.rules.specs.declared.state.Writer.{Writer}
 use Rattle.rules.proofs.Lists.{by-eq}
 use Rattle.rules.proofs.invariant.Order.{N, S, R, top_at, next_of, flag_of, phase_at, rephase, Promote, place}
 use Rattle.rules.proofs.invariant.Control.{Moving, RecordOk, Owns, Owners, Above, headed, headless, RecordIn, HeadedIn, HeadlessIn, FlagsIn, Control}
-use Rattle.rules.proofs.control.Phase.{owner-in, newest-off, top_below, top-ok}
+use Rattle.rules.proofs.control.Phase.{owner-in, newest-off, stack-control, top_below, top-ok}
 use Rattle.rules.proofs.order.Places.{page-once, place-le}
 use Rattle.rules.proofs.order.Records.{Reflag, reflag, flag-other, flag-apart, reflag-links, reflag-small, record-map, records-set, owners-set, reader-map}
 
@@ -71,16 +71,11 @@ module _ {s : State} {L : ℕ → ℕ} {pc pt : ℕ} (v : Control s L pc pt) (de
 
   pub standing-control : HeadedIn s L → Control (set_phase (after_promote (page t) (page n) own) s) L pc pt
   standing-control h =
-      record {
-        links = v.links;
-        order = v.order;
-        joined = v.joined;
-        flags = headed h;
-        owners = owners-set s.stack (top_at s) promoted v.owners (omega arith) (top_below v deep) v.owners.small (λ p hp f. source p f) alone;
-        depth = rw (length-set s.stack (top_at s) promoted) v.depth;
-        records = records-set (RecordIn s L pc pt) s.stack s.depth (top_at s) promoted (top_below v deep) (λ i hi ne. v.records i hi) (after-ok s.words s.used (N s) (S s) P pc pt own t n before);
-        reader = v.reader;
-      }
+      stack-control v _ _ _ (headed h)
+      (owners-set s.stack (top_at s) promoted v.owners (omega arith) (top_below v deep) v.owners.small (λ p hp f. source p f) alone)
+      (rw (length-set s.stack (top_at s) promoted) v.depth)
+      (records-set (RecordIn s L pc pt) s.stack s.depth (top_at s) promoted (top_below v deep) (λ i hi ne. v.records i hi)
+      (after-ok s.words s.used (N s) (S s) P pc pt own t n before))
 
   -- ---- Promoted
 
