@@ -5,9 +5,9 @@ use mathlib.Core.List.{List}
 use Prim.Native.Nat.{ℕ, ◌+◌, ◌≤◌}
 use native.Mathlib.Omega.{arith}
 use lib.ListN.{length, set, length-set}
-use Rattle.rules.specs.State.{no_writer, top, pop, State}
+use Rattle.rules.specs.State.{no_writer, with_dropped, top, pop, State}
 use Rattle.rules.specs.Write.{drop}
-use Rattle.rules.specs.Remember.{BegunWriter, By, History}
+use Rattle.rules.specs.Remember.{BegunWriter, By, with_droppers, History}
 use Rattle.rules.specs.History.{others, on_ended, with_dropper}
 use Rattle.rules.specs.declared.state.WriterPhase.{WriterPhase}
 use Rattle.rules.specs.declared.state.WriterPhase.TheVariants as phase
@@ -54,37 +54,23 @@ module _ {s : State} {h : History} {L : ℕ → ℕ} {pc pt a r0 gap : ℕ} (b :
             (λ k. new i (omega arith) (phase-other s.stack (top_at s) i no_writer k ∙ z)));
       }
 
-  -- n is the count of drops after the pop
-  balance' : (n : ℕ) → s.counts.dropped + early (top s).phase ≡ n → s.counts.begun ≡ s.counts.taken + n + earlies stack' (top_at s)
-  balance' n q = omega (arith, balance-top b deep room, earlies-above s.stack (top_at s) (top_at s) no_writer (omega arith))
-
-  filled-free : (top s).phase ≡ phase.Filled → (p j : ℕ) → (top s).phase ≡ Held p j → ⊥
-  filled-free q p j z =
-      let y : ◌≡◌ {A = ℕ} 0 1 = cc in
-      omega arith
+  -- the pop, with so many drops after it
+  popped-accounts : (dropped : ℕ) (droppers : List BegunWriter) → ((p j : ℕ) → (top s).phase ≡ Held p j → ⊥) → s.counts.dropped + early (top s).phase ≡ dropped
+      → Accounts (with_dropped dropped (pop s)) (on_ended (with_droppers droppers h)) L pc pt a r0 gap
+  popped-accounts dropped droppers free q =
+      record {
+        contents = b.contents;
+        sums = b.sums;
+        values = values' free;
+        quiet = b.quiet;
+        recorded = b.recorded;
+        work = work';
+        balance = omega (arith, balance-top b deep room, earlies-above s.stack (top_at s) (top_at s) no_writer (omega arith));
+        stack_room = length-set s.stack (top_at s) no_writer ∙ b.stack_room;
+      }
 
   pub finished-accounts : (top s).phase ≡ phase.Filled → Accounts (pop s) (on_ended h) L pc pt a r0 gap
-  finished-accounts q =
-      record {
-        contents = b.contents;
-        sums = b.sums;
-        values = values' (filled-free q);
-        quiet = b.quiet;
-        recorded = b.recorded;
-        work = work';
-        balance = balance' s.counts.dropped (omega (arith, ap early q));
-        stack_room = length-set s.stack (top_at s) no_writer ∙ b.stack_room;
-      }
+  finished-accounts q = popped-accounts s.counts.dropped h.droppers (λ p j z. cc) (omega (arith, ap early q))
 
   pub dropped-accounts : (top s).phase ≡ phase.Want → Accounts (drop s) (on_ended (with_dropper h)) L pc pt a r0 gap
-  dropped-accounts q =
-      record {
-        contents = b.contents;
-        sums = b.sums;
-        values = values' (λ p j. early-not-held p j (ap early q));
-        quiet = b.quiet;
-        recorded = b.recorded;
-        work = work';
-        balance = balance' (s.counts.dropped + 1) (omega (arith, ap early q));
-        stack_room = length-set s.stack (top_at s) no_writer ∙ b.stack_room;
-      }
+  dropped-accounts q = popped-accounts (s.counts.dropped + 1) _ (λ p j. early-not-held p j (ap early q)) (omega (arith, ap early q))

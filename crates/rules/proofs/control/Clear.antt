@@ -48,13 +48,10 @@ module _ {s : State} {L : ℕ → ℕ} {pc pt : ℕ} (v : Control s L pc pt) (de
       headed-unless v.flags
       (λ o.
       by-eq o.a (top_at s)
-      (λ q. not-promote (sym o.owner ∙ ap (phase_at s.stack) q ∙ phase-is))
+      (λ q.
+      let same : Promote (P (N s - 1)) (P (N s)) true ≡ Clear t n = sym o.owner ∙ ap (phase_at s.stack) q ∙ phase-is in
+      cc)
       (λ q. subst (Above (P (N s - 1)) (P (N s))) phase-is (o.above (top_at s) (omega (arith, o.below)) (omega arith))))
-    where
-      not-promote : {a b : ℕ} → Promote a b true ≡ Clear t n → ⊥
-      not-promote q =
-          let z : ◌≡◌ {A = ℕ} 0 1 = cc in
-          omega arith
 
   moving-kept : (x y : ℕ) → Moving s.words s.used (N s) (S s) P pc pt x y → Moving words' s.used (N s) (S s) P pc pt x y
   moving-kept x y m = record { spot = m.spot; next = reflagged.next x ∙ m.next; not_last = m.not_last }

@@ -36,12 +36,9 @@ pub accepted-fits : (pages slots mode : ℕ) → (fresh_rule pages slots mode).a
 accepted-fits pages slots mode e =
     by_bool (size_fits (size_of pages slots mode))
     (λ t. t)
-    (λ f. absurd (not-accepted (rw f at e)))
-  where
-    not-accepted : answer.Refused refusal.SetUp ≡ answer.Accepted → ⊥
-    not-accepted q =
-        let z : ◌≡◌ {A = ℕ} 0 1 = cc in
-        omega arith
+    (λ f.
+    let refused : answer.Refused refusal.SetUp ≡ answer.Accepted = rw f at e in
+    absurd cc)
 
 pub fresh-is : (pages slots mode : ℕ) → size_fits (size_of pages slots mode) ≡ true → (fresh_rule pages slots mode).state ≡ fresh_ring (size_of pages slots mode)
 fresh-is pages slots mode e = rw e refl
