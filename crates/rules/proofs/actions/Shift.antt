@@ -5,16 +5,16 @@ use mathlib.Core.Bool.{Bool, true, false, cond}
 use mathlib.Core.List.{List}
 use Prim.Native.Nat.{ℕ, zero, suc, ◌+◌, ◌-◌, ◌≤◌}
 use native.Mathlib.Omega.{arith}
-use borrow.Author.Tests.{le-leb, leb-true, leb-false}
+use borrow.Author.Tests.{le-leb, leb-true}
 use lib.Dec.{eqb, leb, ltb}
 use lib.ListN.{length, drop, length-drop}
 use lib.Seq.{get_or-drop}
+use Rattle.std.specs.Cmp.{both_ways}
 use Rattle.rules.specs.Actions.{Decoded, begin_code, write_code, read_code, begin_length, byte_at, begin_value, begin_at, coded_at, action_first, go_on, decoded_within, decoded_from, decoded}
 use Rattle.rules.specs.declared.state.Action.{Action}
 use Rattle.rules.specs.declared.state.Action.TheVariants.{Begin, Write, Read}
 use Rattle.rules.specs.declared.actions.Coded.{Coded}
 use Rattle.rules.specs.declared.actions.Coded.TheVariants.{Whole, Broken, End}
-use Rattle.rules.proofs.Lists.{by_bool}
 
 -- what is told from a later place on, told from the first
 abbrev pub shifted : ℕ → Decoded → Decoded
@@ -29,15 +29,6 @@ cond-moved : (from : ℕ) (b b' : Bool) (x x' y y' : Coded) → b ≡ b' → x �
 cond-moved from b true x x' y y' e p q = rw e p
 cond-moved from b false x x' y y' e p q = rw e q
 
-leb-same : (a b c d : ℕ) → (a ≤ b → c ≤ d) → (c ≤ d → a ≤ b) → leb a b ≡ leb c d
-leb-same a b c d there back =
-    by_bool (leb a b)
-    (λ e. e ∙ sym (le-leb c d (there (leb-true a b e))))
-    (λ e.
-    by_bool (leb c d)
-    (λ h. let m = leb-false a b e in let n = back (leb-true c d h) in absurd (omega arith))
-    (λ h. e ∙ sym h))
-
 module _ (bytes : List ℕ) (from : ℕ) (l : from ≤ length bytes) where
   abbrev part : List ℕ
   part = drop from bytes
@@ -48,7 +39,9 @@ module _ (bytes : List ℕ) (from : ℕ) (l : from ≤ length bytes) where
   end_same : (i : ℕ) → leb (length bytes) (from + i) ≡ leb (length part) i
   end_same i =
       let n = part_length in
-      leb-same (length bytes) (from + i) (length part) i (λ h. omega arith) (λ h. omega arith)
+      both_ways _ _
+      (λ h. le-leb (length part) i (omega (arith, leb-true (length bytes) (from + i) h)))
+      (λ h. le-leb (length bytes) (from + i) (omega (arith, leb-true (length part) i h)))
 
   byte-same : (i : ℕ) → byte_at bytes (from + i) ≡ byte_at part i
   byte-same i = sym (get_or-drop from bytes i 0)
