@@ -12,7 +12,8 @@ use lib.ListN.{length, get_or, replicate, length-append, get_or-append}
 use lib.Seq.{get_or-append_seam}
 use Rattle.std.proofs.lemmas.Bool.{and_from, and_parts}
 use Rattle.std.specs.Prelude.{Some, None}
-use Rattle.rules.specs.Lists.{and_then, every, all, all_below, least, tabulate}
+use Rattle.std.specs.List.{list_all}
+use Rattle.rules.specs.Lists.{and_then, every, all_below, least, tabulate}
 
 -- ---- case splits
 
@@ -81,7 +82,7 @@ module _ (f : ℕ → Bool) where
   all_below-all zero h = refl
   all_below-all (suc m) h = rw (all_below-all m (λ i l. h i (omega arith))) (h m (omega arith))
 
-  pub all_get_d : (xs : List ℕ) → ((i : ℕ) → f (get_or xs i 0) ≡ true) → all f xs ≡ true
+  pub all_get_d : (xs : List ℕ) → ((i : ℕ) → f (get_or xs i 0) ≡ true) → list_all f xs ≡ true
   all_get_d [] h = refl
   all_get_d (x ∷ xs) h = rw (h 0) (all_get_d xs (λ i. h (suc i)))
 

@@ -1,7 +1,7 @@
 -- Demand 3: what holds after every list of actions, one named field for each part of the claim; and what it means that a receipt says complete. Section
 -- "Receipt", from "Demand 3 tells a reading's place" on. A run r has the ring after the list, r.now, and what the list did, r.past.
 -- Assumes nothing.
-use Rattle.std.specs.Prelude.{◌≡◌, ◌≢◌, ◌⊎◌, Bool, true, false, cond, List, [], ◌∷◌, ℕ, zero, suc, ◌+◌, ◌≤◌, ◌<◌, eqb, length, get_or, None}
+use Rattle.std.specs.Prelude.{All, ◌≡◌, ◌≢◌, ◌⊎◌, Bool, true, false, cond, List, [], ◌∷◌, ℕ, zero, suc, ◌+◌, ◌≤◌, ◌<◌, eqb, length, get_or, None}
 use Rattle.rules.specs.Limits.{header_flag, update_flag}
 use Rattle.rules.specs.State.{word_at, used_at, number_at, value_at, top, State}
 use Rattle.rules.specs.Words.{page_in, flag_in}
@@ -39,10 +39,6 @@ pub data ExactlyOne (A B C D : Type 0) : Type 0 where
   only_second : ¬ A → B → ¬ C → ¬ D → ExactlyOne A B C D
   only_third : ¬ A → ¬ B → C → ¬ D → ExactlyOne A B C D
   only_fourth : ¬ A → ¬ B → ¬ C → D → ExactlyOne A B C D
-
-abbrev pub All : {A : Type 0} → (A → Type 0) → List A → Type 0
-All B [] = Unit {0}
-All B (x ∷ rest) = B x × All B rest
 
 abbrev pub Some : {A : Type 0} → (A → Type 0) → List A → Type 0
 Some B [] = ⊥

@@ -16,11 +16,6 @@ abbrev pub every : List Bool → Bool
 every [] = true
 every (b ∷ bs) = and_then b bs
 
--- every element of the list passes the test
-abbrev pub all : (ℕ → Bool) → List ℕ → Bool
-all f [] = true
-all f (x ∷ xs) = f x && all f xs
-
 -- every number below the bound passes the test
 abbrev pub all_below : ℕ → (ℕ → Bool) → Bool
 all_below zero f = true

@@ -2,7 +2,8 @@
 -- Assumes nothing.
 use Rattle.std.specs.Prelude.{Bool, true, ◌&&◌, not, List, [], ◌∷◌, ℕ, ◌+◌, eqb, leb, ltb}
 use Rattle.rules.specs.Limits.{least_pages, most_pages, least_slots, most_slots, most_depth, most_count, stop_mode, both_flags}
-use Rattle.rules.specs.Lists.{every, all, all_below}
+use Rattle.std.specs.List.{list_all}
+use Rattle.rules.specs.Lists.{every, all_below}
 use Rattle.rules.specs.State.{page, word_at, used_at, record_at, State}
 use Rattle.rules.specs.Words.{page_in, flag_in}
 use Rattle.rules.specs.declared.state.PageNo.{PageNo}
@@ -129,7 +130,7 @@ abbrev pub number_fits : ℕ → Bool
 number_fits number = leb number most_count
 
 unfoldable pub numbers_fit : List ℕ → Bool
-numbers_fit numbers = all number_fits numbers
+numbers_fit numbers = list_all number_fits numbers
 
 -- where things stand: all of it but the counts and the slots' numbers
 abbrev pub layout_tests : Size → Places → ReaderPhase → List Writer → ℕ → List ℕ → List ℕ → List Bool

@@ -1,5 +1,4 @@
--- The numbers lost: how many an overwriting adds and which, by recursion on the page's slots and on the list of overwritings; and a fact of all overwritings,
--- with one more.
+-- The numbers lost: how many an overwriting adds and which, by recursion on the page's slots and on the list of overwritings.
 -- Assumes nothing.
 use mathlib.Core.Path.{◌≡◌, refl, ap, ◌∙◌}
 use mathlib.Core.List.{List, [], ◌∷◌, ◌++◌, append_assoc, append-nil}
@@ -8,7 +7,6 @@ use native.Mathlib.Omega.{arith}
 use lib.ListN.{length, get_or}
 use Rattle.rules.specs.State.{used_at, number_at, State}
 use Rattle.rules.specs.Remember.{Overwriting}
-use Rattle.rules.specs.Demand.{All}
 use Rattle.rules.specs.declared.state.PageNo.{PageNo}
 use Rattle.rules.proofs.invariant.Accounts.{numbers_on, lost_of}
 
@@ -29,7 +27,3 @@ pub lost_of-snoc : (os : List Overwriting) (o : Overwriting)
     → lost_of (os ++ (o ∷ [])) ≡ lost_of os ++ numbers_on o.before o.page 0 (used_at o.before.used o.page)
 lost_of-snoc [] o = append-nil _
 lost_of-snoc (x ∷ rest) o = rw (lost_of-snoc rest o, append_assoc)
-
-pub All-snoc : {A : Type 0} (B : A → Type 0) (xs : List A) (x : A) → All B xs → B x → All B (xs ++ (x ∷ []))
-All-snoc B [] x all last = (last, tt)
-All-snoc B (y ∷ rest) x all last = (all.0, All-snoc B rest x all.1 last)

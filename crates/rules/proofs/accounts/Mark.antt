@@ -10,6 +10,7 @@ use native.Mathlib.Nat.{mul-le-mul_left}
 use borrow.Author.Tests.{lt-ltb, eq-eqb, ne_eqb}
 use lib.ListN.{length, get_or, set, length-set, length-append, get_or-append}
 use lib.Seq.{get_or-append-add}
+use Rattle.std.proofs.lemmas.List.Elements.{All-push}
 use Rattle.rules.specs.State.{page, number_at, top, State}
 use Rattle.rules.specs.Write.{mark}
 use Rattle.rules.specs.Remember.{Marker, By, History, overwriting}
@@ -24,7 +25,7 @@ use Rattle.rules.proofs.invariant.Control.{Owns, Control}
 use Rattle.rules.proofs.invariant.Accounts.{Numbers, Sums, Holding, HeldOk, Values, early, numbers_on, lost_of, Lost, Past, worker_at, AtWork, Accounts}
 use Rattle.rules.proofs.accounts.Emptied.{emptied-other, emptied-slot, emptied-cap, emptied-below, lower-number}
 use Rattle.rules.proofs.accounts.Laws.{value_same, value-other, held-map, holding-lower, quiet-map, lower-sum}
-use Rattle.rules.proofs.accounts.Lost.{numbers_on-length, numbers_on-at, lost_of-snoc, All-snoc}
+use Rattle.rules.proofs.accounts.Lost.{numbers_on-length, numbers_on-at, lost_of-snoc}
 use Rattle.rules.proofs.accounts.Phase.{early-not-held, unheld, balance-top, earlies-set}
 use Rattle.rules.proofs.accounts.Readings.{committed-at}
 use Rattle.rules.proofs.control.Mark.{marking, t-newest, n-oldest, tail-newest, tail-is, commit-off, n≤N, n≢R, away, t≢n, lower, newest-now, unowned}
@@ -309,7 +310,7 @@ module _ {s : State} {h : History} {L : ℕ → ℕ} {pc pt a r0 gap : ℕ} (v :
               Past h.events l h.readings s.counts.handed (s.counts.overwritten + used_of s n) r0 s.places.position (get_or used' (R s) 0) (gap + S s))
               (sym (lost_of-snoc h.overwritings _)) past-kept;
           ordered = b.recorded.ordered;
-          rightly = All-snoc RightlyTaken h.overwritings _ b.recorded.rightly rightly;
+          rightly = All-push RightlyTaken h.overwritings _ b.recorded.rightly rightly;
         };
         work = work-kept;
         balance = omega (arith, balance-top b deep v.depth, earlies-set b deep v.depth owner, ap early phase-is);

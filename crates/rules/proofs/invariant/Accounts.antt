@@ -8,10 +8,11 @@ use mathlib.Core.List.{List, [], ◌∷◌, ◌++◌}
 use Prim.Native.Nat.{ℕ, zero, suc, ◌+◌, ◌*◌, ◌≤◌, ◌<◌}
 use lib.Dec.{ltb}
 use lib.ListN.{length, get_or}
+use Rattle.std.specs.Prelude.{All}
 use Rattle.rules.specs.Limits.{most_pages, most_slots, slot_room, most_depth}
 use Rattle.rules.specs.State.{page, used_at, number_at, State}
 use Rattle.rules.specs.Remember.{BegunWriter, Numbered, ReadEvent, Overwriting, Marker, By, History, unbegun}
-use Rattle.rules.specs.Demand.{All, unnumbered, no_event, EventIn, RightlyTaken}
+use Rattle.rules.specs.Demand.{unnumbered, no_event, EventIn, RightlyTaken}
 use Rattle.rules.specs.declared.state.PageNo.{PageNo}
 use Rattle.rules.specs.declared.state.WriterPhase.{WriterPhase}
 use Rattle.rules.specs.declared.state.WriterPhase.TheVariants as phase

@@ -215,7 +215,7 @@ module _ (size : Size) (fits : size_fits size ≡ true) where
         recorded = record {
           past = nothing-past;
           ordered = record { size = refl; nth = λ k hk. absurd (omega arith); committed_below = λ k hk. absurd (omega arith) };
-          rightly = tt;
+          rightly = λ k d below. absurd (omega arith);
         };
         work = record { many = refl; value = λ i hi. absurd (omega arith); marks = λ i p hi o. absurd (omega arith) };
         balance = refl;
