@@ -15,7 +15,7 @@ use Rattle.rules.specs.declared.state.Writer.{Writer}
 use Rattle.rules.proofs.Lists.{by-eq}
 use Rattle.rules.proofs.invariant.Order.{N, S, R, top_at, phase_at, Held, place}
 use Rattle.rules.proofs.invariant.Control.{Owns}
-use Rattle.rules.proofs.invariant.Accounts.{Values, early, earlies, AtWork, Accounts}
+use Rattle.rules.proofs.invariant.Accounts.{Values, early, AtWork, Accounts}
 use Rattle.rules.proofs.accounts.Laws.{value-other, earlies-above}
 use Rattle.rules.proofs.accounts.Phase.{early-not-held, balance-top}
 use Rattle.rules.proofs.accounts.Working.{others-length, others-at}

@@ -4,7 +4,6 @@ use mathlib.Core.Path.{◌≡◌, refl, sym, subst}
 use mathlib.Core.Bool.{true}
 use mathlib.Core.List.{List, [], ◌∷◌}
 use Prim.Native.Nat.{ℕ}
-use native.Mathlib.Omega.{arith}
 use Rattle.rules.specs.State.{size_of, State}
 use Rattle.rules.specs.Shape.{size_fits}
 use Rattle.rules.specs.SetUp.{fresh_ring, fresh_rule}
