@@ -1,5 +1,4 @@
 -- Laws and theorems that belong to no one function.
 pub mod Representation
 pub mod Loops
-pub mod moves
 pub mod demand

@@ -1,4 +1,3 @@
--- Read: the laws of its refusal and of its decisions, and beside them the proofs of the functions of src/read.rt. The proof of the method itself is
--- under state/Ring/read, beside the type's other methods.
+-- Read: the laws of its decisions, and what it leaves of the shape.
 pub mod Laws
 pub mod Kept

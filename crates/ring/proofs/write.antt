@@ -1,3 +1,2 @@
--- Write: the laws of its refusals and of its decisions, and beside them the proofs of the functions of src/write.rt. The proof of the method itself is
--- under state/Ring/write, beside the type's other methods.
+-- Write: the laws of its decisions.
 pub mod Laws

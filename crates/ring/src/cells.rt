@@ -9,8 +9,9 @@ ghost use Rattle.ring.specs.Ring.{state_of};
 use crate::state::Ring;
 use rules::state::{PageNo, Writer, WriterPhase};
 
+// A page's number may be any number: a ring out of shape has such, and so the type can't say that it is below 17.
 impl Ring {
-    // The word of a page.
+    // The word of a page. This and `used_at` are two of the rules' names, and each tells which array it reads.
     pub(crate) fn word_at(&self, p: PageNo) -> u32
         requires { p.0 ≤ most_pages }
         ensures { result ≡ word_at self.now.words p }

@@ -6,11 +6,9 @@ ghost use Rattle.rules.specs.State.{top};
 ghost use Rattle.ring.specs.Change.{unchanged, begin_change, moved_change, write_change, read_change, change_of, changed, MovedPrecondition, WritePrecondition, ReadPrecondition, ChangePrecondition};
 ghost use Rattle.ring.specs.Ring.{state_of};
 
-use crate::begin::begin_verdict;
 use crate::cells::wanting;
 use crate::pieces::{Stores, read_handed, read_places, record_after};
 use crate::state::Ring;
-use crate::write::write_verdict;
 use rules::moves::Move;
 use rules::state::{Action, Answer, Counts, Places, ReaderPhase, Writer};
 
@@ -50,7 +48,7 @@ impl Ring {
         requires { (self.now.depth ≤ most_depth) × (self.now.counts.begun ≤ most_count) }
         ensures { result ≡ begin_change value (top (state_of self.now)) self.now.places self.now.counts self.now.depth self.now.reader }
     {
-        if let Err(why) = begin_verdict(true, self.depth, self.counts.begun) {
+        if let Err(why) = self.begin_verdict() {
             return self.unchanged(Answer::Refused(why));
         }
         let mut next = self.unchanged(Answer::Begun(self.depth + 1));
@@ -83,7 +81,7 @@ impl Ring {
         requires { (self.now.depth ≤ most_depth) × WritePrecondition (top (state_of self.now)) self.now.size self.now.places self.now.counts self.now.depth self.now.words self.now.used }
         ensures { result ≡ write_change (top (state_of self.now)) self.now.size self.now.places self.now.counts self.now.depth self.now.reader self.now.words self.now.used }
     {
-        if let Err(why) = write_verdict(true, self.depth) {
+        if let Err(why) = self.write_verdict() {
             return self.unchanged(Answer::Refused(why));
         }
         self.moved_change(self.plan_phase(self.top().phase))

@@ -41,8 +41,8 @@ pub fn answer_numbers(answer: Answer) -> Numbers
 {
     match answer {
         Answer::Accepted => kind(0),
-        Answer::Begun(depth) => with_one(1, depth as u64),
-        Answer::Reserved(number) => with_one(2, number.0 as u64),
+        Answer::Begun(depth) => with_one(1, u64::from(depth)),
+        Answer::Reserved(number) => with_one(2, u64::from(number.0)),
         Answer::Looked => kind(3),
         Answer::Dropped => kind(4),
         Answer::Marked => kind(5),
@@ -58,8 +58,8 @@ pub fn answer_numbers(answer: Answer) -> Numbers
         Answer::Pending => kind(15),
         Answer::Event(number, value) => Numbers {
             code: 16,
-            first: number.0 as u64,
-            second: value as u64,
+            first: u64::from(number.0),
+            second: u64::from(value),
         },
         Answer::Empty => kind(17),
         Answer::Found => kind(18),

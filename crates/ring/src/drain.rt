@@ -13,13 +13,11 @@ ghost use Rattle.ring.specs.Drain.{CountMatches};
 use crate::state::{DrainCount, Ring};
 use rules::state::{Answer, Counts, Refusal};
 
-const TWO_32: u64 = 4294967296;
-
 // An Event as it is stored.
 fn event_number(number: u32, value: u32) -> u64
     ensures { result ≡ event_number (reading number) value }
 {
-    (number as u64) * TWO_32 + (value as u64)
+    (u64::from(number) << 32) + u64::from(value)
 }
 
 // Whether handed + overwritten is at most committed: the one clause of the shape that an Event can break.

@@ -76,7 +76,7 @@ impl Ring {
                 next.dropped += 1;
                 next.committed = next.taken;
             }
-            Move::Mark(_, n) => next.overwritten += self.used_at(n) as u64,
+            Move::Mark(_, n) => next.overwritten += u64::from(self.used_at(n)),
             Move::Commit => next.committed = next.taken,
             _ => (),
         }

@@ -17,12 +17,12 @@ use rules::state::{Answer, Refusal};
 // How many numbers an answer takes in the buffer lent.
 pub const NUMBERS_PER_ANSWER: usize = 3;
 
-// An answer as numbers, from a place on.
+// An answer as numbers, from a place on. Three stores, as `laid_at` has them: an array made for a copy would be a fourth line.
 fn lay_answer(buffer: &mut [u64], at: usize, n: Numbers)
     requires { at + 2 < length buffer.old }
     ensures { buffer.new ≡ laid_at buffer.old at n }
 {
-    buffer[at] = n.code as u64;
+    buffer[at] = u64::from(n.code);
     buffer[at + 1] = n.first;
     buffer[at + 2] = n.second;
 }
@@ -43,9 +43,8 @@ fn answers_fit(bytes: &[u8], room: usize) -> bool
 pub fn refused_replay(why: Refusal) -> Replay
     ensures { replay_outcome result ≡ refused_replay why }
 {
-    let ring = Ring::plain();
     Replay {
-        ring,
+        ring: Ring::plain(),
         answer: Answer::Refused(why),
         made: 0,
         stop: 0,

@@ -1,5 +1,5 @@
-// The test of shape. Each clause has a function of its own.
-// Tests are joined by `&`, since none of them can trap, and a loop goes through all of its places.
+// The test of shape. Each clause has a function of its own. Tests are joined by `&`, since none of them can trap, and a loop goes through all of its
+// places: with `all` and `&&`, which stop early, the test takes longer on a ring in shape.
 ghost use Rattle.std.specs.Prelude.{◌≡◌, ◌≤◌};
 ghost use Rattle.rules.specs.Limits.{most_pages};
 ghost use Rattle.rules.specs.Shape.{size_fits, places_fit, counts_small, counts_fit, pages_fit, held_fits, writer_fits, reader_fits, stack_fits, word_fits, words_fit, used_fit, layout_fits, ring_fits, in_shape};
@@ -69,13 +69,12 @@ fn writer_fits(phase: WriterPhase, s: Size) -> bool
     ensures { result ≡ writer_fits phase s }
 {
     match phase {
-        WriterPhase::Want => true,
-        WriterPhase::Mark(t, n) => pages_fit(t, n, s.pages),
-        WriterPhase::Promote(t, n, _) => pages_fit(t, n, s.pages),
-        WriterPhase::Clear(t, n) => pages_fit(t, n, s.pages),
-        WriterPhase::Push(t, n) => pages_fit(t, n, s.pages),
+        WriterPhase::Want | WriterPhase::Filled => true,
+        WriterPhase::Mark(t, n)
+        | WriterPhase::Promote(t, n, _)
+        | WriterPhase::Clear(t, n)
+        | WriterPhase::Push(t, n) => pages_fit(t, n, s.pages),
         WriterPhase::Held(p, slot) => held_fits(p, slot, s),
-        WriterPhase::Filled => true,
     }
 }
 
@@ -84,8 +83,7 @@ fn reader_fits(phase: ReaderPhase, s: Size) -> bool
 {
     match phase {
         ReaderPhase::Idle => true,
-        ReaderPhase::Found(p, h) => pages_fit(p, h, s.pages),
-        ReaderPhase::Ready(p, h) => pages_fit(p, h, s.pages),
+        ReaderPhase::Found(p, h) | ReaderPhase::Ready(p, h) => pages_fit(p, h, s.pages),
     }
 }
 
@@ -105,7 +103,7 @@ impl Ring {
         }
         let mut ok = true;
         for i in 0..self.depth as usize {
-            ok = ok & writer_fits(self.stack[i].phase, self.size);
+            ok &= writer_fits(self.stack[i].phase, self.size);
         }
         ok
     }
@@ -117,7 +115,7 @@ impl Ring {
         let n = self.size.pages;
         let mut ok = true;
         for p in 0..=n as usize {
-            ok = ok & word_fits(self.words[p], n);
+            ok &= word_fits(self.words[p], n);
         }
         ok
     }
@@ -128,7 +126,7 @@ impl Ring {
     {
         let mut ok = true;
         for p in 0..=self.size.pages as usize {
-            ok = ok & (self.used[p] <= self.size.slots);
+            ok &= self.used[p] <= self.size.slots;
         }
         ok
     }

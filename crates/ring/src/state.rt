@@ -72,10 +72,12 @@ impl Ring {
 
     pub const PLAIN_MODE: u32 = Ring::OVERWRITE;
 
+    // The modes are numbers: `fresh` answers SETUP for one that is neither.
     pub const OVERWRITE: u32 = 0;
 
     pub const STOP: u32 = 1;
 
+    // The flags are numbers: a word is any number, and `flag_in` tells its remainder by 4, which the fourth of these is too.
     pub const NORMAL: u32 = 0;
 
     pub const HEADER: u32 = 1;

@@ -29,7 +29,7 @@ pub fn flag_in(w: u32) -> u32
 pub fn word_of(page: PageNo, flag: u32) -> u64
     ensures { result ≡ word_of page flag }
 {
-    4 * (page.0 as u64) + (flag as u64)
+    4 * u64::from(page.0) + u64::from(flag)
 }
 
 impl Ring {
@@ -38,7 +38,7 @@ impl Ring {
         requires { p.0 ≤ most_pages }
         ensures { result ≡ links self.now.words p n flag }
     {
-        (self.word_at(p) as u64) == word_of(n, flag)
+        u64::from(self.word_at(p)) == word_of(n, flag)
     }
 
     // The lowest page up to n, other than the reader page, whose word is HEADER. A word that the reader has prepared is no ring mark.

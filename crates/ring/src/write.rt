@@ -22,20 +22,19 @@ fn after_promote(t: PageNo, n: PageNo, own: bool) -> WriterPhase
     }
 }
 
-// Whether a Write is made or refused; `fit` says whether the ring is in shape.
-pub(crate) fn write_verdict(fit: bool, depth: u32) -> Result<(), Refusal>
-    ensures { result ≡ write_verdict fit depth }
-{
-    if !fit {
-        return Err(Refusal::Shape);
-    }
-    if depth == 0 {
-        return Err(Refusal::Nobody);
-    }
-    Ok(())
-}
-
+// What these methods ask of a ring is what they need and no more: a ring in shape has it. It can't stand in the type, since a ring that is handed
+// in may be out of shape, and Begin, Write, Read, the receipt and the drain answer that.
 impl Ring {
+    // Whether a Write is made or refused, on a ring in shape.
+    pub(crate) fn write_verdict(&self) -> Result<(), Refusal>
+        ensures { result ≡ write_verdict true self.now.depth }
+    {
+        if self.depth == 0 {
+            return Err(Refusal::Nobody);
+        }
+        Ok(())
+    }
+
     // A drop. At depth 1 it also commits what the writers inside left.
     fn plan_drop(&self) -> Move
         ensures { result ≡ plan_drop self.now.depth }
@@ -155,7 +154,7 @@ impl Ring {
         }
     }
 
-    // Which rule applies to a record on top that is in this phase.
+    // Which rule applies to a record on top that is in this phase. A match, as the phases are these and no others.
     pub(crate) fn plan_phase(&self, phase: WriterPhase) -> Move
         requires { (self.now.size.pages ≤ most_pages) × (self.now.places.tail.0 ≤ most_pages) × (writer_fits phase self.now.size ≡ true) }
         ensures { result ≡ plan_phase phase self.now.size self.now.places self.now.depth self.now.words self.now.used }

@@ -1,17 +1,14 @@
 -- The pieces that a Write or a Read leaves are together what its rule leaves of the whole ring, and the cells that it stores to are within the arrays.
 -- Assumes nothing.
 use mathlib.Core.Path.{◌≡◌, refl}
-use mathlib.Core.Bool.{true}
 use mathlib.Core.List.{List}
 use Prim.Native.Nat.{ℕ, ◌-◌, ◌≤◌}
-use borrow.Author.Tests.{ne_eqb}
 use lib.ListN.{set}
 use Rattle.rules.specs.Limits.{most_pages, most_slots}
 use Rattle.rules.specs.State.{with_stack, with_counts, with_places, with_depth, with_reader, with_handed, top, State}
-use Rattle.rules.specs.Shape.{in_shape}
 use Rattle.rules.specs.Answers.{Outcome, gives}
-use Rattle.rules.specs.Write.{moved, plan_write, write_rule}
-use Rattle.rules.specs.Read.{fetched, plan_read, read_rule}
+use Rattle.rules.specs.Write.{moved}
+use Rattle.rules.specs.Read.{fetched}
 use Rattle.ring.specs.Pieces.{answer_after, counts_after, places_after, depth_after, record_after, stores_after, read_answer, read_handed, read_places, read_phase, read_stores, stored, StoresPrecondition, MovePrecondition, FetchPrecondition}
 use Rattle.rules.specs.declared.state.PageNo.{PageNo}
 use Rattle.rules.specs.declared.state.Size.{Size}
@@ -24,9 +21,7 @@ use Rattle.rules.specs.declared.moves.Move.TheVariants.{Become, Reserve, Drop, D
 use Rattle.rules.specs.declared.moves.Fetch.{Fetch}
 use Rattle.rules.specs.declared.moves.Fetch.TheVariants as fetch
 use Rattle.ring.specs.declared.pieces.Stores.{Stores}
-use Rattle.ring.specs.declared.pieces.Stores.TheVariants as stores
 use Rattle.rules.proofs.state.Laws.{slot_index-room}
-use Rattle.ring.proofs.write.Laws.{Allows}
 use Rattle.rules.specs.declared.state.ReaderPhase.{ReaderPhase}
 
 -- ---- Write
@@ -55,21 +50,6 @@ moved-pieces (Push n) r = refl
 moved-pieces (Fill p slot) r = refl
 moved-pieces Pend r = refl
 moved-pieces Commit r = refl
-
--- a Write that is allowed leaves these pieces
-pub write-leaves :
-    (r : State) {m : Move} {a : Answer} {w : Writer} {counts : Counts} {places : Places} {depth : ℕ} {c : Stores} →
-    Allows (in_shape r) r.depth →
-    m ≡ plan_write r →
-    a ≡ answer_after m r.counts.taken →
-    w ≡ record_after m (top r).value →
-    counts ≡ counts_after m r.counts r.used →
-    places ≡ places_after m r.places r.used →
-    depth ≡ depth_after m r.depth →
-    c ≡ stores_after m r.size r.counts.taken (top r).value r.words →
-    write_rule r ≡ leaves r a w counts places depth c
-write-leaves r {m} ok e ea ew ek ep ed ec =
-    rw (ok.shape, ne_eqb r.depth 0 ok.somebody, ← e, ea, ew, ek, ep, ed, ec) (moved-pieces m r)
 
 -- the cells that a Write stores to
 module _ (size : Size) (taken value : ℕ) (words : List ℕ) (le : size.slots ≤ most_slots) where
@@ -105,19 +85,6 @@ fetched-pieces (fetch.Prepare p h) r = refl
 fetched-pieces (fetch.Swap p h) r = refl
 fetched-pieces fetch.Miss r = refl
 
--- a Read that is allowed leaves these pieces
-pub read-leaves :
-    (r : State) {f : Fetch} {a : Answer} {handed : ℕ} {places : Places} {reader : ReaderPhase} {c : Stores} →
-    in_shape r ≡ true →
-    f ≡ plan_read r →
-    a ≡ read_answer f r.size r.places r.numbers r.values →
-    handed ≡ read_handed f r.counts.handed →
-    places ≡ read_places f r.places →
-    reader ≡ read_phase f r.reader →
-    c ≡ read_stores f r.places.reader r.words →
-    read_rule r ≡ read_leaves r a handed places reader c
-read-leaves r {f} shape e ea eh ep er ec = rw (shape, ← e, ea, eh, ep, er, ec) (fetched-pieces f r)
-
 module _ (reader : PageNo) (words : List ℕ) where
   -- the cells that a Read stores to
   pub read-stores-precondition : (f : Fetch) → FetchPrecondition f → reader.0 ≤ most_pages → StoresPrecondition (read_stores f reader words)
@@ -128,17 +95,3 @@ module _ (reader : PageNo) (words : List ℕ) where
   read-stores-precondition (fetch.Prepare p q) h le = le
   read-stores-precondition (fetch.Swap p q) h le = (h, le)
   read-stores-precondition fetch.Miss h le = tt
-
-  -- of the five kinds of stores a Read makes a word's or a taken page's, and otherwise none
-  pub read-stores-same :
-      (f : Fetch) →
-      ((p : PageNo) (w : ℕ) → read_stores f reader words ≡ stores.Word p w → ⊥) →
-      ((p : PageNo) (w : ℕ) (old : PageNo) → read_stores f reader words ≡ stores.Take p w old → ⊥) →
-      read_stores f reader words ≡ stores.Same
-  read-stores-same fetch.Event no-word no-take = refl
-  read-stores-same fetch.Empty no-word no-take = refl
-  read-stores-same fetch.Busy no-word no-take = refl
-  read-stores-same (fetch.Find p q) no-word no-take = refl
-  read-stores-same (fetch.Prepare p q) no-word no-take = absurd (no-word _ _ refl)
-  read-stores-same (fetch.Swap p q) no-word no-take = absurd (no-take _ _ _ refl)
-  read-stores-same fetch.Miss no-word no-take = refl

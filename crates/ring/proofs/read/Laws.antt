@@ -1,15 +1,14 @@
--- What it tells that a Read is allowed, and that a rule applies to a ring in shape: an Event's slot lies below the limit, and the pages that a
+-- What it tells that a rule applies to a ring in shape: an Event's slot lies below the limit, and the pages that a
 -- rule names are pages of the ring.
 -- Assumes nothing.
-use Rattle.std.specs.Prelude.{Option, Some, None, Ok}
+use Rattle.std.specs.Prelude.{Option, Some, None}
 use mathlib.Core.Path.{◌≡◌, refl}
-use mathlib.Core.Bool.{Bool, true, false}
+use mathlib.Core.Bool.{true}
 use Prim.Native.Nat.{ℕ, ◌≤◌, ◌<◌}
 use native.Mathlib.Omega.{arith}
 use borrow.Author.Tests.{ltb-true, leb-true}
 use lib.Dec.{ltb, leb}
 use Rattle.rules.specs.Limits.{header_flag}
-use Rattle.rules.specs.Refusals.{read_verdict}
 use Rattle.rules.specs.State.{page, word_at, State}
 use Rattle.rules.specs.Words.{page_in, reader_on_commit, links, find_header}
 use Rattle.rules.specs.Shape.{reader_fits}
@@ -24,11 +23,6 @@ use Rattle.rules.proofs.Lists.{by_cond, and_left}
 use Rattle.rules.proofs.order.Search.{Tells, search-tells}
 use Rattle.rules.proofs.shape.Laws.{InShape, pages-fit}
 use Rattle.rules.proofs.state.Laws.{slot_index-room}
-use Rattle.ring.proofs.moves.Laws.{refused-is-not-allowed}
-
-pub allows : (fits : Bool) → read_verdict fits ≡ Ok tt → fits ≡ true
-allows false h = absurd (refused-is-not-allowed _ h)
-allows true h = refl
 
 -- ---- what it tells that a rule applies
 

@@ -1,15 +1,14 @@
--- What it tells that a Write is allowed, and that the move decided on a ring in shape names only pages and slots that the ring has room for.
+-- The move decided on a ring in shape names only pages and slots that the ring has room for.
 -- Assumes nothing.
-use Rattle.std.specs.Prelude.{Option, Some, None, Ok}
-use mathlib.Core.Path.{◌≡◌, refl}
-use mathlib.Core.Bool.{Bool, true, false, ◌&&◌, ◌||◌}
+use Rattle.std.specs.Prelude.{Option, Some, None}
+use mathlib.Core.Path.{◌≡◌}
+use mathlib.Core.Bool.{true, ◌&&◌, ◌||◌}
 use Prim.Native.Nat.{ℕ, ◌-◌, ◌≤◌}
 use native.Mathlib.Omega.{arith}
-use borrow.Author.Tests.{eqb-false, ltb-true}
+use borrow.Author.Tests.{ltb-true}
 use lib.Dec.{eqb, ltb}
 use Rattle.rules.specs.Limits.{most_pages, stop_mode, header_flag, update_flag}
 use Rattle.rules.specs.State.{word_at, used_at, top, State}
-use Rattle.rules.specs.Refusals.{write_verdict}
 use Rattle.rules.specs.Words.{page_in, flag_in, same_page, reader_on_commit, links, find_header}
 use Rattle.rules.specs.Shape.{pages_fit, writer_fits}
 use Rattle.rules.specs.Write.{plan_drop, plan_full, promote_by, plan_phase, plan_write}
@@ -17,20 +16,8 @@ use Rattle.ring.specs.Pieces.{MovePrecondition}
 use Rattle.rules.specs.declared.state.PageNo.{PageNo}
 use Rattle.rules.specs.declared.state.WriterPhase.{WriterPhase}
 use Rattle.rules.specs.declared.state.WriterPhase.TheVariants as phase
-use Rattle.rules.proofs.Lists.{by_bool, by_cond}
+use Rattle.rules.proofs.Lists.{by_cond}
 use Rattle.rules.proofs.shape.Laws.{InShape, pages-fit, held-fits}
-use Rattle.ring.proofs.moves.Laws.{refused-is-not-allowed}
-
-pub record Allows (fits : Bool) (depth : ℕ) : Type 0 where
-  pub shape : fits ≡ true
-  pub somebody : depth ≡ 0 → ⊥
-
-pub allows : (fits : Bool) (depth : ℕ) → write_verdict fits depth ≡ Ok tt → Allows fits depth
-allows false depth h = absurd (refused-is-not-allowed _ h)
-allows true depth h =
-    by_bool (eqb depth 0)
-    (λ d. absurd (refused-is-not-allowed _ (rw d at h)))
-    (λ d. record { shape = refl; somebody = eqb-false depth 0 d })
 
 -- a drop names nothing to store to
 drop-precondition : (depth : ℕ) → MovePrecondition (plan_drop depth)

@@ -2,7 +2,7 @@
 use Rattle.std.proofs.Common.{length, arith, ap, sym}
 use Rattle.rules.specs.Actions.{Decoded}
 use Rattle.rules.proofs.actions.Laws.{whole-moves, decoded-whole, decoded-stops}
-use Rattle.ring.proofs.moves.Laws.{stops-unless-whole}
+use Rattle.ring.proofs.actions.Laws.{stops-unless-whole}
 use Rattle.ring.proofs.actions.action_count.Goals as goal
 
 pub loop-action-preserved : goal.loop-action-preserved

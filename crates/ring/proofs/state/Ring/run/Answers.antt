@@ -11,7 +11,7 @@ use Rattle.rules.specs.declared.codes.Numbers.{Numbers}
 use Rattle.rules.specs.declared.actions.Coded.TheVariants.{Whole}
 use Rattle.ring.specs.Replay.{laid_at}
 use Rattle.rules.proofs.actions.Laws.{decoded-stops}
-use Rattle.ring.proofs.moves.Laws.{stops-unless-whole}
+use Rattle.ring.proofs.actions.Laws.{stops-unless-whole}
 use Rattle.ring.proofs.replay.Laws.{Progress, shaped, one_left, buffer-length, turn, finish}
 use Rattle.ring.proofs.state.Ring.run.Goals as goal
 

@@ -1,2 +1,0 @@
--- Verdicts and moves: what a match on one tells.
-pub mod Laws
