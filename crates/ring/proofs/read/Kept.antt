@@ -9,6 +9,7 @@ use borrow.Author.Tests.{le-leb, ne_eqb}
 use lib.Dec.{leb}
 use lib.ListN.{length, get_or, set}
 use lib.Seq.{get_or-set_same, get_or-set_other, set_out}
+use Rattle.std.proofs.lemmas.Bool.{and_from, and_parts}
 use Rattle.rules.specs.Limits.{both_flags}
 use Rattle.rules.specs.State.{with_reader, with_places, with_counts, with_words, with_used, State}
 use Rattle.rules.specs.Words.{word_of}
@@ -17,7 +18,7 @@ use Rattle.rules.specs.declared.state.PageNo.{PageNo}
 use Rattle.rules.specs.declared.state.Size.{Size}
 use Rattle.rules.specs.declared.state.Places.{Places}
 use Rattle.rules.specs.declared.state.Counts.{Counts}
-use Rattle.rules.proofs.Lists.{by-eq, by-lt, and_left, and_right, and_both, each, every-each, all_below-at, all_below-all}
+use Rattle.rules.proofs.Lists.{by-eq, by-lt, each, every-each, all_below-at, all_below-all}
 use Rattle.rules.specs.declared.state.ReaderPhase.{ReaderPhase}
 
 -- ---- a ring in shape with other pieces that fit
@@ -34,8 +35,8 @@ module _ (r : State) (h : in_shape r ≡ true) where
   unfolding in_shape layout_fits
   parts =
       let l = layout_fits r.size r.places r.reader r.stack r.depth r.words r.used in
-      let whole = and_left (ring_fits r) (numbers_fit r.numbers) h in
-      let e = each (layout_tests r.size r.places r.reader r.stack r.depth r.words r.used) (and_right (counts_fit r.counts) l whole) in
+      let whole = and_parts (ring_fits r) (numbers_fit r.numbers) h in
+      let e = each (layout_tests r.size r.places r.reader r.stack r.depth r.words r.used) (and_parts (counts_fit r.counts) l whole.0).1 in
       record { places_fit = e.1.0; reader_fits = e.1.1.0; words_fit = e.1.1.1.1.0; used_fit = e.1.1.1.1.1.0 }
 
   -- the pieces stored
@@ -50,13 +51,13 @@ module _ (r : State) (h : in_shape r ≡ true) where
   unfolding in_shape layout_fits
   reshaped counts places reader words used c p =
       let l = layout_fits r.size r.places r.reader r.stack r.depth r.words r.used in
-      let whole = and_left (ring_fits r) (numbers_fit r.numbers) h in
-      let e = each (layout_tests r.size r.places r.reader r.stack r.depth r.words r.used) (and_right (counts_fit r.counts) l whole) in
-      and_both
-      (and_both c
+      let whole = and_parts (ring_fits r) (numbers_fit r.numbers) h in
+      let e = each (layout_tests r.size r.places r.reader r.stack r.depth r.words r.used) (and_parts (counts_fit r.counts) l whole.0).1 in
+      and_from _ _
+      (and_from _ _ c
       (every-each (layout_tests r.size places reader r.stack r.depth words used)
       (e.0, (p.places_fit, (p.reader_fits, (e.1.1.1.0, (p.words_fit, (p.used_fit, tt))))))))
-      (and_right (ring_fits r) (numbers_fit r.numbers) h)
+      whole.1
 
 -- ---- the cells
 

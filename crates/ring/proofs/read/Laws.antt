@@ -1,6 +1,7 @@
 -- What it tells that a rule applies to a ring in shape: an Event's slot lies below the limit, and the pages that a
 -- rule names are pages of the ring.
 -- Assumes nothing.
+use Rattle.std.proofs.lemmas.Bool.{and_parts}
 use Rattle.std.specs.Prelude.{Option, Some, None}
 use mathlib.Core.Path.{◌≡◌, refl}
 use mathlib.Core.Bool.{true}
@@ -19,7 +20,7 @@ use Rattle.rules.specs.declared.state.ReaderPhase.{ReaderPhase}
 use Rattle.rules.specs.declared.state.ReaderPhase.TheVariants as phase
 use Rattle.rules.specs.declared.moves.Fetch.{Fetch}
 use Rattle.rules.specs.declared.moves.Fetch.TheVariants.{Event, Empty, Busy, Find, Prepare, Swap, Miss}
-use Rattle.rules.proofs.Lists.{by_cond, and_left}
+use Rattle.rules.proofs.Lists.{by_cond}
 use Rattle.rules.proofs.order.Search.{Tells, search-tells}
 use Rattle.rules.proofs.shape.Laws.{InShape, pages-fit}
 use Rattle.rules.proofs.state.Laws.{slot_index-room}
@@ -48,7 +49,7 @@ module _ (r : State) (s : InShape r) where
   pub next_fits : (p : ℕ) → p ≤ r.size.pages → (page_in (word_at r.words (page p))).0 ≤ r.size.pages
   next_fits p hp =
       let w = word_at r.words (page p) in
-      leb-true (page_in w).0 r.size.pages (and_left (leb (page_in w).0 r.size.pages) _ (s.word_at p hp))
+      leb-true (page_in w).0 r.size.pages (and_parts (leb (page_in w).0 r.size.pages) _ (s.word_at p hp)).0
 
   find-planned : (found : Option (PageNo × PageNo)) → Tells r.words r.size.pages r.places.reader.0 found → Planned r (find_by found)
   find-planned (Some (p, h)) t = (t.0, rw t.3 (next_fits p.0 t.0))
