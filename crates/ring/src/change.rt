@@ -13,7 +13,7 @@ use rules::moves::Move;
 use rules::state::{Action, Answer, Counts, Places, ReaderPhase, Writer};
 
 // All that an action of any kind leaves: its answer, and each piece of the ring as it then is. A piece that stays is stored as it was.
-#[derive(Clone, Copy)]
+#[derive(Clone, Copy, PartialEq, Eq, Debug)]
 pub struct Change {
     pub answer: Answer,
     // a place of the stack, and the record that it gets

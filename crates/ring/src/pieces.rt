@@ -11,7 +11,7 @@ use rules::moves::{Fetch, Move};
 use rules::state::{Answer, Counts, PageNo, Places, ReaderPhase, ReadingNo, Writer, WriterPhase};
 
 // The cells of the arrays that an action stores to. A slot is named by its place in the arrays of slots.
-#[derive(Clone, Copy)]
+#[derive(Clone, Copy, PartialEq, Eq, Debug)]
 pub enum Stores {
     Same,
     // a slot and the number that it gets; its page and the page's used

@@ -2,7 +2,7 @@
 use rules::state::{Answer, Counts, Places, ReaderPhase, Size, Writer};
 
 // The ring. Arrays have room for 17 pages of 16 slots; slot s of page p stands at p * S + s.
-#[derive(Clone, Copy)]
+#[derive(Clone, Copy, PartialEq, Eq, Debug)]
 pub struct Ring {
     pub size: Size,
     pub places: Places,
@@ -22,14 +22,14 @@ pub struct Ring {
 }
 
 // What an action gives back.
-#[derive(Clone, Copy)]
+#[derive(Clone, Copy, PartialEq, Eq, Debug)]
 pub struct Step {
     pub ring: Ring,
     pub answer: Answer,
 }
 
 // What a replay of actions gives back; their answers are in the buffer that was lent.
-#[derive(Clone, Copy)]
+#[derive(Clone, Copy, PartialEq, Eq, Debug)]
 pub struct Replay {
     // after the last action made; the plain ring where the replay was refused before the first
     pub ring: Ring,
@@ -42,7 +42,7 @@ pub struct Replay {
 }
 
 // What a drain gives back beside the elements that it stored: they are the first `count` of the buffer that was lent.
-#[derive(Clone, Copy)]
+#[derive(Clone, Copy, PartialEq, Eq, Debug)]
 pub struct DrainCount {
     pub ring: Ring,
     pub last: Option<Answer>,

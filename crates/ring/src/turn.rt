@@ -12,7 +12,7 @@ use rules::moves::Fetch;
 use rules::state::{Answer, Places, ReaderPhase};
 
 // What the Reads of one turn of a drain leave: those of some Events that stand one after the other, or one Read of another kind.
-#[derive(Clone, Copy)]
+#[derive(Clone, Copy, PartialEq, Eq, Debug)]
 pub struct Turn {
     // how many Events, and the place of the first one's slot
     pub count: usize,

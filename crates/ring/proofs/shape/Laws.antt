@@ -1,7 +1,7 @@
 -- The code tests the counts and the layout of a ring, and that is the whole test of shape: a slot's number is 32 bits wide, and meets its limit by that.
 -- Assumes nothing.
-use mathlib.Core.Path.{◌≡◌}
-use mathlib.Core.Bool.{true, and-true}
+use mathlib.Core.Path.{◌≡◌, sym, ◌∙◌}
+use mathlib.Core.Bool.{Bool, true, and-true}
 use mathlib.Core.List.{[], ◌∷◌}
 use Prim.Native.Nat.{ℕ}
 use native.Mathlib.Omega.{arith}
@@ -29,7 +29,7 @@ module _ (r : State) where
 narrow : (r : Ring) (w : Val) → Is the_row r (w ∷ []) → (i : ℕ) → Fits w32 (get_or r.numbers i 0)
 narrow r w p i = search rules
 
--- so of such a ring what the code tests is the whole shape
-pub fitting : (r : Ring) (w : Val) → Is the_row r (w ∷ []) → ring_fits (state_of r) ≡ in_shape (state_of r)
+-- so of such a ring the code's test is that of the whole shape: what it tells of one it tells of the other
+pub fitting : (r : Ring) (w : Val) → Is the_row r (w ∷ []) → {fit told : Bool} → fit ≡ ring_fits (state_of r) → fit ≡ told → in_shape (state_of r) ≡ told
 unfolding in_shape
-fitting r w p = rw (numbers-fit (state_of r) (narrow r w p), and-true)
+fitting r w p e h = rw (numbers-fit (state_of r) (narrow r w p), and-true) (sym e ∙ h)
