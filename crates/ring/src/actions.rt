@@ -17,7 +17,7 @@ fn begin_at(bytes: &[u8], at: usize) -> Coded
     Coded::Whole(Action::Begin(value), at + Action::BEGIN_LENGTH)
 }
 
-// What stands at a place.
+// What stands at a place. The bytes are lent whole and the place beside them, since the rule counts places from their start.
 pub fn action_at(bytes: &[u8], at: usize) -> Coded
     ensures { result ≡ coded_at bytes.now at }
 {
@@ -32,7 +32,7 @@ pub fn action_at(bytes: &[u8], at: usize) -> Coded
     }
 }
 
-// How many whole actions stand one after the other from a place on.
+// How many whole actions stand one after the other from a place on. A cursor and no index: where the next one stands is known by this one's length.
 pub fn action_count(bytes: &[u8], from: usize) -> usize
     ensures { result ≡ length (decoded_from bytes.now from).actions }
 {

@@ -12,7 +12,8 @@ use crate::state::Ring;
 use rules::moves::Move;
 use rules::state::{Action, Answer, Counts, Places, ReaderPhase, Writer};
 
-// All that an action of any kind leaves: its answer, and each piece of the ring as it then is. A piece that stays is stored as it was.
+// All that an action of any kind leaves: its answer, and each piece of the ring as it then is. A piece that stays is stored as it was. The pieces
+// stand apart, so that all are decided on the ring as it was before one of them is stored.
 #[derive(Clone, Copy, PartialEq, Eq, Debug)]
 pub struct Change {
     pub answer: Answer,
@@ -100,6 +101,7 @@ impl Ring {
         next
     }
 
+    // A match on the action, as there are these three and no others.
     pub(crate) fn change_by(&self, action: Action) -> Change
         requires { (self.now.depth ≤ most_depth) × ChangePrecondition action (top (state_of self.now)) self.now.size self.now.places self.now.counts self.now.depth self.now.reader self.now.words self.now.used }
         ensures { result ≡ change_of (state_of self.now) action }

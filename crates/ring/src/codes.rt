@@ -36,6 +36,7 @@ fn with_one(code: u32, first: u64) -> Numbers
     }
 }
 
+// A function and no From, since both types are those of crate rules; the codes are those of its rule `numbers_of`.
 pub fn answer_numbers(answer: Answer) -> Numbers
     ensures { result ≡ numbers_of answer }
 {

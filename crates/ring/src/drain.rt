@@ -57,6 +57,7 @@ impl Ring {
         ensures { CountMatches (drain_reads most_in_row (length buffer.old) (state_of self) None) result × (buffer.new ≡ buffer_after (drain_reads most_in_row (length buffer.old) (state_of self) None) buffer.old) }
     {
         let most = buffer.len();
+        // how many Events are laid: a turn may lay several, and how many is known once it is decided
         let mut at: usize = 0;
         let mut left: u32 = Ring::MOST_IN_ROW;
         let mut last = None;

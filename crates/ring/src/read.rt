@@ -51,7 +51,7 @@ impl Ring {
         }
     }
 
-    // Which rule applies to the reader, by its phase.
+    // Which rule applies to the reader, by its phase: a match, as the phases are these and no others.
     pub(crate) fn plan_reader(&self) -> Fetch
         requires { (self.now.size.pages ≤ most_pages) × (self.now.places.reader.0 ≤ most_pages) × (reader_fits self.now.reader self.now.size ≡ true) }
         ensures { result ≡ plan_reader self.now.reader self.now.size self.now.places self.now.words self.now.used }

@@ -69,6 +69,7 @@ impl Ring {
         requires { Reached (state_of self) × (numbers_per_answer * length (decoded bytes.now).actions ≤ length buffer.old) }
         ensures { (replay_outcome result ≡ ran (state_of self) (decoded bytes.now)) × (buffer.new ≡ ran_buffer (state_of self) (decoded bytes.now) buffer.old) }
     {
+        // a cursor over the bytes and a count of the answers laid
         let mut at: usize = 0;
         let mut made: usize = 0;
         while let Coded::Whole(action, next) = action_at(bytes, at) {

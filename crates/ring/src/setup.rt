@@ -104,7 +104,7 @@ impl Ring {
         })
     }
 
-    // Whether `fresh` accepts these: N, S and mode in range.
+    // Whether `fresh` accepts these: N, S and mode in range. Three numbers and no Size, here and in `fresh`: any are answered.
     pub fn accepts(pages: u32, slots: u32, mode: u32) -> bool
         ensures { result ≡ size_fits (size_of pages slots mode) }
     {

@@ -1,7 +1,8 @@
 // The ring, what its calls give back, and its constants.
 use rules::state::{Answer, Counts, Places, ReaderPhase, Size, Writer};
 
-// The ring. Arrays have room for 17 pages of 16 slots; slot s of page p stands at p * S + s.
+// The ring. Arrays have room for 17 pages of 16 slots; slot s of page p stands at p * S + s. Words and used, numbers and values lie in arrays of their
+// own, and the stack keeps its depth beside it, since the rules' State has them so and `state_of` tells each field by itself.
 #[derive(Clone, Copy, PartialEq, Eq, Debug)]
 pub struct Ring {
     pub size: Size,
@@ -33,9 +34,9 @@ pub struct Step {
 pub struct Replay {
     // after the last action made; the plain ring where the replay was refused before the first
     pub ring: Ring,
-    // Accepted, or why the replay was refused
+    // Accepted, or why the replay was refused: an answer, as that of the set-up which it begins with
     pub answer: Answer,
-    // how many actions were made
+    // how many actions were made, 0 where the replay was refused before the first (`refused_replay`)
     pub made: usize,
     // where they end: the place of the first byte after them, and 0 where the replay was refused before the first
     pub stop: usize,

@@ -35,7 +35,7 @@ impl Ring {
         Ok(())
     }
 
-    // A drop. At depth 1 it also commits what the writers inside left.
+    // A drop. At depth 1 it also commits what the writers inside left. (`plan_filled` is alike but for what it decides: each is a rule by its name.)
     fn plan_drop(&self) -> Move
         ensures { result ≡ plan_drop self.now.depth }
     {
