@@ -7,6 +7,7 @@ use mathlib.Core.List.{List, []}
 use Prim.Native.Nat.{ℕ}
 use native.Mathlib.Omega.{arith}
 use lib.ListN.{length}
+use Rattle.std.specs.Prelude.{Result, Ok, Err}
 use seplogic.Ra.Ura.{Ura}
 use base.Logic.{SProp}
 use prog.Memory.{Memory}
@@ -23,7 +24,7 @@ use Rattle.ring.specs.Replay.{replay_outcome}
 use Rattle.ring.specs.Calls.{Single}
 use Rattle.ring.specs.Code.{ForCalls}
 use Rattle.trace.specs.Header.{first_action, header_of}
-use Rattle.trace.specs.Replays.{walk_actions, walked, header_ring, replayed_from, buffer_from}
+use Rattle.trace.specs.Replays.{walk_actions, walked, replayed_from, buffer_from}
 use Rattle.trace.specs.Runs.{TraceReplayed, TraceDemand3}
 use Rattle.rules.specs.declared.state.Size.{Size}
 use Rattle.rules.specs.declared.state.Refusal.{Refusal}
@@ -32,8 +33,6 @@ use Rattle.rules.specs.declared.state.Answer.{Answer}
 use Rattle.rules.specs.declared.state.Answer.TheVariants as answer
 use Rattle.ring.specs.declared.state.Ring.{Ring}
 use Rattle.ring.specs.declared.state.Replay.{Replay}
-use Rattle.trace.specs.declared.parts.Header.{Header}
-use Rattle.trace.specs.declared.parts.Header.TheVariants.{Ready, Refused}
 use Rattle.trace.specs.declared.reader.TraceReader.{TraceReader}
 use Rattle.rules.proofs.Lists.{by_bool}
 use Rattle.ring.proofs.Representation.{ring_of}
@@ -63,11 +62,11 @@ reader-clause :
 reader-clause 𝓛 mem run κs t buffer r end = refl
 
 -- a header says one thing
-abbrev size_in : Header → Size
-size_in (Ready pages slots mode) = size_of pages slots mode
-size_in (Refused why) = size_of 0 0 0
+abbrev size_in : Result Size Refusal → Size
+size_in (Ok size) = size
+size_in (Err why) = size_of 0 0 0
 
-ready-once : {h : Header} {pages slots mode : ℕ} {why : Refusal} {P : Type 0} → h ≡ Refused why → h ≡ Ready pages slots mode → P
+ready-once : {h : Result Size Refusal} {pages slots mode : ℕ} {why : Refusal} {P : Type 0} → h ≡ Err why → h ≡ Ok (size_of pages slots mode) → P
 ready-once r e = let z : ◌≡◌ {A = ℕ} 0 1 = cc in absurd (omega arith)
 
 module _ (bytes : List ℕ) (at : ℕ) (buffer : List ℕ) (r : Replay) (then : List ℕ) where
@@ -79,7 +78,7 @@ module _ (bytes : List ℕ) (at : ℕ) (buffer : List ℕ) (r : Replay) (then : 
       (why : Refusal) →
       replay_outcome r ≡ refused_replay why →
       then ≡ buffer →
-      ((pages slots mode : ℕ) → header_of bytes ≡ Ready pages slots mode → r.answer ≢ answer.Refused Room → ⊥) →
+      ((pages slots mode : ℕ) → header_of bytes ≡ Ok (size_of pages slots mode) → r.answer ≢ answer.Refused Room → ⊥) →
       ForCalls promises Began r.ring
   refused-claim why e kept never =
       plain-claim Began r.ring (ap (λ (o : ReplayOutcome). o.state) e)
@@ -92,11 +91,11 @@ module _ (bytes : List ℕ) (at : ℕ) (buffer : List ℕ) (r : Replay) (then : 
         unplaced = λ is. refl;
       })
 
-  module _ (pages slots mode : ℕ) (says : header_of bytes ≡ Ready pages slots mode) where
+  module _ (pages slots mode : ℕ) (says : header_of bytes ≡ Ok (size_of pages slots mode)) where
     -- the actions are made
     walk-claim :
-        replay_outcome r ≡ walked (length bytes) (header_ring pages slots mode) (walk_actions bytes at) →
-        then ≡ ran_buffer (header_ring pages slots mode) (walk_actions bytes at) buffer →
+        replay_outcome r ≡ walked (length bytes) (fresh_ring (size_of pages slots mode)) (walk_actions bytes at) →
+        then ≡ ran_buffer (fresh_ring (size_of pages slots mode)) (walk_actions bytes at) buffer →
         ForCalls promises Began r.ring
     walk-claim e filled =
         let fresh = fresh_ring (size_of pages slots mode) in
@@ -105,19 +104,19 @@ module _ (bytes : List ℕ) (at : ℕ) (buffer : List ℕ) (r : Replay) (then : 
         (record {
           made = ap (λ (o : ReplayOutcome). o.made) e ∙ sym (makes-length fresh actions);
           answers = filled ∙ ap (λ (l : List Answer). over (laid l) buffer) (sym (makes-answered fresh actions));
-          set_up = λ n s m ready other. set-up n s m (ready-fits bytes ready) (ring_of fresh) (ap (λ (h : Header). fresh_ring (size_in h)) (sym says ∙ ready));
+          set_up = λ n s m ready other. set-up n s m (ready-fits bytes ready) (ring_of fresh) (ap (λ (h : Result Size Refusal). fresh_ring (size_in h)) (sym says ∙ ready));
           actions = λ n s m ready other. makes-asked fresh actions;
           unmade = λ why is. ready-once is says;
-          unplaced = λ is. absurd (walked-not-room bytes at (header_ring pages slots mode) (sym (ap (λ (o : ReplayOutcome). o.answer) e) ∙ is));
+          unplaced = λ is. absurd (walked-not-room bytes at (fresh_ring (size_of pages slots mode)) (sym (ap (λ (o : ReplayOutcome). o.answer) e) ∙ is));
         })
 
-  by-header : (h : Header) → header_of bytes ≡ h → Walks bytes at buffer r then → ForCalls promises Began r.ring
+  by-header : (h : Result Size Refusal) → header_of bytes ≡ h → Walks bytes at buffer r then → ForCalls promises Began r.ring
   unfolding replayed_from buffer_from
-  by-header (Refused why) says g =
+  by-header (Err why) says g =
       refused-claim why (g.0 ∙ rw says refl) (g.1 ∙ rw says refl) (λ pages slots mode ready other. ready-once says ready)
-  by-header (Ready pages slots mode) says g =
+  by-header (Ok size) says g =
       by_bool (buffer_fits (walk_actions bytes at) (length buffer))
-      (λ room. walk-claim pages slots mode says (g.0 ∙ rw (says, room) refl) (g.1 ∙ rw (says, room) refl))
+      (λ room. walk-claim size.pages size.slots size.mode says (g.0 ∙ rw (says, room) refl) (g.1 ∙ rw (says, room) refl))
       (λ short.
       let e = g.0 ∙ rw (says, short) refl in
       refused-claim Room e (g.1 ∙ rw (says, short) refl) (λ pages slots mode ready other. other (ap (λ (o : ReplayOutcome). o.answer) e)))

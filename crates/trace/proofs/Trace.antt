@@ -6,20 +6,20 @@ use Prim.Native.Nat.{ℕ, ◌+◌, ◌*◌, ◌≤◌}
 use native.Mathlib.Omega.{arith}
 use borrow.Author.Tests.{le-leb, le-ltb, eq-eqb, ne_eqb}
 use lib.ListN.{length, length-append}
+use Rattle.std.specs.Prelude.{Result, Ok, Err}
+use Rattle.std.proofs.Math.Nat.{min-eq_left}
 use lib.Seq.{take-append_seam, drop-append-add, drop-drop}
 use Rattle.rules.specs.State.{size_of}
 use Rattle.rules.specs.Shape.{size_fits}
+use Rattle.rules.specs.SetUp.{fresh_ring}
 use Rattle.rules.specs.Actions.{Decoded, decoded_from, action_bytes, encoded}
 use Rattle.rules.specs.Replay.{numbers_per_answer, over, ran_buffer, buffer_fits}
 use Rattle.trace.specs.Header.{most_length, mark_end, version_end, first_action, plain_byte, header_of}
-use Rattle.trace.specs.Replays.{walk_place, walk_actions, walked, header_ring, replayed_from, buffer_from}
+use Rattle.trace.specs.Replays.{walk_place, walk_actions, walked, replayed_from, buffer_from}
 use Rattle.trace.specs.Encode.{header_bytes, put, kept, place_for, header_place, action_place}
 use Rattle.trace.specs.Trace.{ValuesFit, trace_of, Written, written_from, written, ReadBack, WrittenOut, ReplayedBack, RoundTrip}
 use Rattle.rules.specs.declared.state.Action.{Action}
 use Rattle.rules.specs.declared.state.Refusal.{Refusal}
-use Rattle.trace.specs.declared.parts.Header.TheVariants.{Ready}
-use Rattle.trace.specs.declared.parts.Put.{Put}
-use Rattle.trace.specs.declared.parts.Put.TheVariants.{At, Refused}
 use Rattle.ring.proofs.replay.Laws.{over-length}
 use Rattle.trace.proofs.Actions.{decoded-encoded}
 use Rattle.trace.proofs.encode.Laws.{small, placed, header-placed}
@@ -27,7 +27,7 @@ use Rattle.trace.proofs.encode.Laws.{small, placed, header-placed}
 -- ---- reading
 
 module _ (pages slots mode : ℕ) (actions : List Action) where
-  header-back : size_fits (size_of pages slots mode) ≡ true → length (trace_of pages slots mode actions) ≤ most_length → header_of (trace_of pages slots mode actions) ≡ Ready pages slots mode
+  header-back : size_fits (size_of pages slots mode) ≡ true → length (trace_of pages slots mode actions) ≤ most_length → header_of (trace_of pages slots mode actions) ≡ Ok (size_of pages slots mode)
   header-back h l =
       let s = small pages slots mode h in
       let bytes = trace_of pages slots mode actions in
@@ -46,20 +46,20 @@ module _ (pages slots mode : ℕ) (actions : List Action) where
 -- ---- writing
 
 -- an answer is a place or a refusal, and never both
-by-put : {P : Type 0} (p : Put) → ((next : ℕ) → p ≡ At next → P) → ((why : Refusal) → p ≡ Refused why → P) → P
-by-put (At next) x y = x next refl
-by-put (Refused why) x y = y why refl
+by-put : {P : Type 0} (p : Result ℕ Refusal) → ((next : ℕ) → p ≡ Ok next → P) → ((why : Refusal) → p ≡ Err why → P) → P
+by-put (Ok next) x y = x next refl
+by-put (Err why) x y = y why refl
 
-not-both : {P : Type 0} {p : Put} {why : Refusal} {end : ℕ} → p ≡ Refused why → p ≡ At end → P
+not-both : {P : Type 0} {p : Result ℕ Refusal} {why : Refusal} {end : ℕ} → p ≡ Err why → p ≡ Ok end → P
 not-both r h = let z : ◌≡◌ {A = ℕ} 0 1 = cc in absurd (omega arith)
 
 -- after a refusal there is no call
-refused-stays : (why : Refusal) (out : List ℕ) (actions : List Action) → (written_from (Refused why) out actions).place ≡ Refused why
+refused-stays : (why : Refusal) (out : List ℕ) (actions : List Action) → (written_from (Err why) out actions).place ≡ Err why
 refused-stays why out [] = refl
 refused-stays why out (a ∷ rest) = refl
 
-refused-after : {p : Put} {why : Refusal} (new old : List ℕ) (actions : List Action) → p ≡ Refused why → (written_from p (kept p new old) actions).place ≡ Refused why
-refused-after {p} {why} new old actions e = ap (λ (q : Put). (written_from q (kept q new old) actions).place) e ∙ refused-stays why old actions
+refused-after : {p : Result ℕ Refusal} {why : Refusal} (new old : List ℕ) (actions : List Action) → p ≡ Err why → (written_from p (kept p new old) actions).place ≡ Err why
+refused-after {p} {why} new old actions e = ap (λ (q : Result ℕ Refusal). (written_from q (kept q new old) actions).place) e ∙ refused-stays why old actions
 
 module _ (out : List ℕ) where
   -- bytes put after those that are there already
@@ -67,18 +67,18 @@ module _ (out : List ℕ) where
   over-more pre bytes = simp (take-append_seam, drop-append-add, drop-drop, length-append)
 
   -- bytes that there is room for are put
-  has-place : (pre bytes : List ℕ) → length pre + length bytes ≤ most_length → length pre + length bytes ≤ length out → place_for (length (over pre out)) (length pre) (length bytes) ≡ At (length pre + length bytes)
+  has-place : (pre bytes : List ℕ) → length pre + length bytes ≤ most_length → length pre + length bytes ≤ length out → place_for (length (over pre out)) (length pre) (length bytes) ≡ Ok (length pre + length bytes)
   has-place pre bytes s f =
       rw (over-length pre out (omega arith), le-ltb most_length (length pre + length bytes) s, le-ltb (length out) (length pre + length bytes) f)
 
   -- one call that is not refused, after which the bytes of one action more stand at the start
-  one_more : (pre : List ℕ) (a : Action) (rest : List Action) {next : ℕ} → action_place (length (over pre out)) (length pre) a ≡ At next → written_from (At (length pre)) (over pre out) (a ∷ rest) ≡ written_from (At (length (pre ++ action_bytes a))) (over (pre ++ action_bytes a) out) rest
+  one_more : (pre : List ℕ) (a : Action) (rest : List Action) {next : ℕ} → action_place (length (over pre out)) (length pre) a ≡ Ok next → written_from (Ok (length pre)) (over pre out) (a ∷ rest) ≡ written_from (Ok (length (pre ++ action_bytes a))) (over (pre ++ action_bytes a) out) rest
   one_more pre a rest e =
       let n = (placed (length (over pre out)) (length pre) (length (action_bytes a)) e).after ∙ sym (length-append pre (action_bytes a)) in
-      ap (λ (p : Put). written_from p (kept p (put (action_bytes a) (length pre) (over pre out)) (over pre out)) rest) (e ∙ ap At n)
-      ∙ ap (λ (l : List ℕ). written_from (At (length (pre ++ action_bytes a))) l rest) (over-more pre (action_bytes a))
+      ap (λ (p : Result ℕ Refusal). written_from p (kept p (put (action_bytes a) (length pre) (over pre out)) (over pre out)) rest) (e ∙ ap Ok n)
+      ∙ ap (λ (l : List ℕ). written_from (Ok (length (pre ++ action_bytes a))) l rest) (over-more pre (action_bytes a))
 
-  write-from : (pre : List ℕ) (actions : List Action) → length (pre ++ encoded actions) ≤ most_length → length (pre ++ encoded actions) ≤ length out → (written_from (At (length pre)) (over pre out) actions).place ≡ At (length (pre ++ encoded actions))
+  write-from : (pre : List ℕ) (actions : List Action) → length (pre ++ encoded actions) ≤ most_length → length (pre ++ encoded actions) ≤ length out → (written_from (Ok (length pre)) (over pre out) actions).place ≡ Ok (length (pre ++ encoded actions))
   write-from pre [] s f = rw append-nil
   write-from pre (a ∷ rest) s f =
       let n = length-append pre (action_bytes a ++ encoded rest) in
@@ -93,7 +93,7 @@ module _ (out : List ℕ) where
     pub short : end ≤ most_length
     pub holds : w.out ≡ over whole out
 
-  wrote-from : (pre : List ℕ) (actions : List Action) (end : ℕ) → length pre ≤ most_length → length pre ≤ length out → (written_from (At (length pre)) (over pre out) actions).place ≡ At end → Left (written_from (At (length pre)) (over pre out) actions) (pre ++ encoded actions) end
+  wrote-from : (pre : List ℕ) (actions : List Action) (end : ℕ) → length pre ≤ most_length → length pre ≤ length out → (written_from (Ok (length pre)) (over pre out) actions).place ≡ Ok end → Left (written_from (Ok (length pre)) (over pre out) actions) (pre ++ encoded actions) end
   wrote-from pre [] end s f h =
       let e : length pre ≡ end = cc in
       rw (append-nil, ← e) record { stop = refl; short = s; holds = refl }
@@ -109,17 +109,17 @@ module _ (out : List ℕ) where
 
 module _ (pages slots mode : ℕ) (actions : List Action) (out : List ℕ) where
   -- the first call
-  begun : {next : ℕ} → header_place (length out) pages slots mode ≡ At next → written pages slots mode actions out ≡ written_from (At (length (header_bytes pages slots mode))) (over (header_bytes pages slots mode) out) actions
+  begun : {next : ℕ} → header_place (length out) pages slots mode ≡ Ok next → written pages slots mode actions out ≡ written_from (Ok (length (header_bytes pages slots mode))) (over (header_bytes pages slots mode) out) actions
   begun e =
       let n = (header-placed (length out) pages slots mode e).after in
-      ap (λ (p : Put). written_from p (kept p (put (header_bytes pages slots mode) 0 out) out) actions) (e ∙ ap At n)
+      ap (λ (p : Result ℕ Refusal). written_from p (kept p (put (header_bytes pages slots mode) 0 out) out) actions) (e ∙ ap Ok n)
 
-  write-out : size_fits (size_of pages slots mode) ≡ true → length (trace_of pages slots mode actions) ≤ most_length → length (trace_of pages slots mode actions) ≤ length out → (written pages slots mode actions out).place ≡ At (length (trace_of pages slots mode actions))
+  write-out : size_fits (size_of pages slots mode) ≡ true → length (trace_of pages slots mode actions) ≤ most_length → length (trace_of pages slots mode actions) ≤ length out → (written pages slots mode actions out).place ≡ Ok (length (trace_of pages slots mode actions))
   write-out h s f =
-      let e : header_place (length out) pages slots mode ≡ At first_action = rw (h, le-ltb (length out) first_action (omega arith)) in
+      let e : header_place (length out) pages slots mode ≡ Ok first_action = rw (h, le-ltb (length out) first_action (omega arith)) in
       rw (begun e) (write-from out (header_bytes pages slots mode) actions s f)
 
-  wrote-out : (end : ℕ) → ValuesFit actions → (written pages slots mode actions out).place ≡ At end → WrittenOut pages slots mode actions out end
+  wrote-out : (end : ℕ) → ValuesFit actions → (written pages slots mode actions out).place ≡ Ok end → WrittenOut pages slots mode actions out end
   wrote-out end v h =
       by-put (header_place (length out) pages slots mode)
       (λ next e.
@@ -145,7 +145,7 @@ module _ (pages slots mode : ℕ) (actions : List Action) (buffer : List ℕ) (b
   place : walk_place (length bytes) first_action ≡ first_action
   place =
       let n = trace-length in
-      rw (le-ltb (length bytes) first_action (omega arith))
+      min-eq_left (omega arith)
 
   all : walk_actions bytes first_action ≡ record { actions = actions; stop = length bytes }
   all = ap (decoded_from bytes) place ∙ back.then
@@ -156,7 +156,7 @@ module _ (pages slots mode : ℕ) (actions : List Action) (buffer : List ℕ) (b
   replayed-back : ReplayedBack pages slots mode actions buffer
   unfolding replayed_from buffer_from
   replayed-back =
-      let r = header_ring pages slots mode in
+      let r = fresh_ring (size_of pages slots mode) in
       record {
         replays = rw (back.header, enough) (ap (walked (length bytes) r) all ∙ rw (eq-eqb (length bytes) (length bytes) refl));
         answers = rw (back.header, enough) (ap (λ (d : Decoded). ran_buffer r d buffer) all);

@@ -2,23 +2,23 @@
 -- action's first byte. On 9 the state is that after the last whole action; on the others it is the plain ring. ... Replay equals the actions one by
 -- one".
 -- Assumes nothing.
-use Rattle.std.specs.Prelude.{◌≡◌, cond, List, [], ◌∷◌, ℕ, ◌+◌, eqb, ltb, length, drop}
-use Rattle.rules.specs.State.{size_of, State}
+use Rattle.std.specs.Prelude.{◌≡◌, cond, List, [], ◌∷◌, ℕ, ◌+◌, min, eqb, length, drop, Result, Ok, Err}
+use Rattle.rules.specs.State.{State}
 use Rattle.rules.specs.Answers.{tells_of}
 use Rattle.rules.specs.SetUp.{fresh_ring}
 use Rattle.rules.specs.Actions.{Decoded, coded_at, decoded_from}
 use Rattle.rules.specs.Replay.{state_after, ran_buffer, buffer_fits, replay_with, refused_replay, ReplayOutcome}
 use Rattle.trace.specs.Header.{header_of}
+use Rattle.rules.specs.declared.state.Size.{Size}
+use Rattle.rules.specs.declared.state.Refusal.{Refusal}
 use Rattle.rules.specs.declared.state.Refusal.TheVariants as refusal
 use Rattle.rules.specs.declared.state.Answer.{Answer}
 use Rattle.rules.specs.declared.state.Answer.TheVariants as answer
 use Rattle.rules.specs.declared.actions.Coded.TheVariants.{Broken}
-use Rattle.trace.specs.declared.parts.Header.{Header}
-use Rattle.trace.specs.declared.parts.Header.TheVariants.{Ready, Refused}
 
 -- where a walk begins: a place past the end is the end
 abbrev pub walk_place : ℕ → ℕ → ℕ
-walk_place len at = cond (ltb len at) len at
+walk_place len at = min at len
 
 -- the bytes from there on, the whole actions among them, and the offset where these stop
 abbrev pub walk_bytes : List ℕ → ℕ → List ℕ
@@ -39,25 +39,21 @@ walked len r d = replay_with (state_after r d.actions) (whole_to len d.stop) (le
 abbrev pub told_from : ℕ → ℕ → ReplayOutcome → ReplayOutcome
 told_from len from run = replay_with run.state (whole_to len (from + run.stop)) run.made (from + run.stop)
 
--- the ring of the header
-abbrev pub header_ring : ℕ → ℕ → ℕ → State
-header_ring pages slots mode = fresh_ring (size_of pages slots mode)
-
--- by what the header says: a refusal, with the plain ring; or the actions on its ring, where the buffer lent has a place for the answer of each, and
--- else 10. So the order is 6, 7, 8, 10, 9: where answers have no place no action is made, and 9 is told with the ring that the actions before it
--- leave
-abbrev pub replayed_by : Header → List ℕ → ℕ → List ℕ → ReplayOutcome
-replayed_by (Refused why) bytes at buffer = refused_replay why
-replayed_by (Ready pages slots mode) bytes at buffer =
+-- by what the header says: a refusal, with the plain ring; or the actions on the fresh ring of its set-up, where the buffer lent has a place for the
+-- answer of each, and else 10. So the order is 6, 7, 8, 10, 9: where answers have no place no action is made, and 9 is told with the ring that the
+-- actions before it leave
+abbrev pub replayed_by : Result Size Refusal → List ℕ → ℕ → List ℕ → ReplayOutcome
+replayed_by (Err why) bytes at buffer = refused_replay why
+replayed_by (Ok size) bytes at buffer =
     cond (buffer_fits (walk_actions bytes at) (length buffer))
-    (walked (length bytes) (header_ring pages slots mode) (walk_actions bytes at))
+    (walked (length bytes) (fresh_ring size) (walk_actions bytes at))
     (refused_replay refusal.Room)
 
 -- what the buffer holds then: the answers at its start, and as before where the replay was refused before the first action
-abbrev pub buffer_by : Header → List ℕ → ℕ → List ℕ → List ℕ
-buffer_by (Refused why) bytes at buffer = buffer
-buffer_by (Ready pages slots mode) bytes at buffer =
-    cond (buffer_fits (walk_actions bytes at) (length buffer)) (ran_buffer (header_ring pages slots mode) (walk_actions bytes at) buffer) buffer
+abbrev pub buffer_by : Result Size Refusal → List ℕ → ℕ → List ℕ → List ℕ
+buffer_by (Err why) bytes at buffer = buffer
+buffer_by (Ok size) bytes at buffer =
+    cond (buffer_fits (walk_actions bytes at) (length buffer)) (ran_buffer (fresh_ring size) (walk_actions bytes at) buffer) buffer
 
 unfoldable pub replayed_from : List ℕ → ℕ → List ℕ → ReplayOutcome
 replayed_from bytes at buffer = replayed_by (header_of bytes) bytes at buffer

@@ -1,6 +1,6 @@
 -- A whole trace, and the round trip: what is written is what is read.
 -- Assumes nothing.
-use Rattle.std.specs.Prelude.{◌≡◌, true, List, [], ◌∷◌, ◌++◌, ℕ, ◌*◌, ◌≤◌, length}
+use Rattle.std.specs.Prelude.{◌≡◌, true, List, [], ◌∷◌, ◌++◌, ℕ, ◌*◌, ◌≤◌, length, Result, Ok, Err}
 use Rattle.rules.specs.Limits.{most_count}
 use Rattle.rules.specs.State.{size_of}
 use Rattle.rules.specs.Shape.{size_fits}
@@ -10,12 +10,10 @@ use Rattle.rules.specs.Replay.{state_after, answers_of, numbers_per_answer, laid
 use Rattle.trace.specs.Header.{most_length, first_action, header_of}
 use Rattle.trace.specs.Replays.{replayed_from, buffer_from}
 use Rattle.trace.specs.Encode.{header_bytes, header_place, header_put, action_place, action_put}
+use Rattle.rules.specs.declared.state.Refusal.{Refusal}
 use Rattle.rules.specs.declared.state.Answer.TheVariants.{Accepted}
 use Rattle.rules.specs.declared.state.Action.{Action}
 use Rattle.rules.specs.declared.state.Action.TheVariants.{Begin, Write, Read}
-use Rattle.trace.specs.declared.parts.Header.TheVariants.{Ready}
-use Rattle.trace.specs.declared.parts.Put.{Put}
-use Rattle.trace.specs.declared.parts.Put.TheVariants.{At, Refused}
 
 -- "four value bytes": the value of a Begin fits them. That of an action of the code always does.
 abbrev pub ValueFits : Action → Type 0
@@ -35,14 +33,14 @@ trace_of pages slots mode actions = header_bytes pages slots mode ++ encoded act
 
 -- what some calls leave: the last one's answer, and the bytes
 pub record Written : Type 0 where
-  pub place : Put
+  pub place : Result ℕ Refusal
   pub out : List ℕ
 
 -- `put_action` for each action in turn, at the place that the call before it gave; after a refusal there is no call
-abbrev pub written_from : Put → List ℕ → List Action → Written
+abbrev pub written_from : Result ℕ Refusal → List ℕ → List Action → Written
 written_from p out [] = record { place = p; out = out }
-written_from (Refused why) out (a ∷ rest) = record { place = Refused why; out = out }
-written_from (At at) out (a ∷ rest) = written_from (action_place (length out) at a) (action_put out at a) rest
+written_from (Err why) out (a ∷ rest) = record { place = Err why; out = out }
+written_from (Ok at) out (a ∷ rest) = written_from (action_place (length out) at a) (action_put out at a) rest
 
 -- `put_header` first
 abbrev pub written : ℕ → ℕ → ℕ → List Action → List ℕ → Written
@@ -52,7 +50,7 @@ written pages slots mode actions out = written_from (header_place (length out) p
 
 -- the header of the trace says the set-up, and then come all the actions, to the trace's end
 pub record ReadBack (pages slots mode : ℕ) (actions : List Action) : Type 0 where
-  pub header : header_of (trace_of pages slots mode actions) ≡ Ready pages slots mode
+  pub header : header_of (trace_of pages slots mode actions) ≡ Ok (size_of pages slots mode)
   pub then : decoded_from (trace_of pages slots mode actions) first_action ≡ record { actions = actions; stop = length (trace_of pages slots mode actions) }
 
 -- where no call was refused, the trace stands at the start of the bytes lent, the rest kept, and it is one that is read back
@@ -82,12 +80,12 @@ pub record RoundTrip : Type 0 where
       size_fits (size_of pages slots mode) ≡ true →
       length (trace_of pages slots mode actions) ≤ most_length →
       length (trace_of pages slots mode actions) ≤ length out →
-      (written pages slots mode actions out).place ≡ At (length (trace_of pages slots mode actions))
+      (written pages slots mode actions out).place ≡ Ok (length (trace_of pages slots mode actions))
   -- whatever the calls are given: if none is refused, they have written the trace
   pub wrote :
       (pages slots mode : ℕ) (actions : List Action) (out : List ℕ) (end : ℕ) →
       ValuesFit actions →
-      (written pages slots mode actions out).place ≡ At end →
+      (written pages slots mode actions out).place ≡ Ok end →
       WrittenOut pages slots mode actions out end
   -- and a trace that is read back is replayed as its actions one by one, where the buffer lent has a place for the answer of each
   pub replayed :

@@ -1,39 +1,10 @@
 // The header of a trace: mark, version and set-up.
 ghost use Rattle.std.specs.Prelude.{◌≡◌};
-ghost use Rattle.trace.specs.Header.{marked, version_fits, mode_of, set_up, header_gives, header_rule};
+ghost use Rattle.trace.specs.Header.{mode_of, set_up, header_gives, header_rule};
 
-use crate::parts::{
-    FIRST_ACTION, HIGH_AT, Header, LOW_AT, MARK_END, MODE_AT, MOST_LENGTH, PAGES_AT, PLAIN_BYTE,
-    SLOTS_AT, VERSION, VERSION_END,
-};
+use crate::parts::{MOST_LENGTH, PLAIN_BYTE, VERSION};
 use ring::{Refusal, Ring};
-
-// A byte as a number.
-fn wide(x: u8) -> u32
-    ensures { result ≡ x }
-{
-    x as u32
-}
-
-// Whether the mark is there, whole and right.
-fn marked(bytes: &[u8]) -> bool
-    ensures { result ≡ marked bytes.now }
-{
-    if bytes.len() < MARK_END {
-        return false;
-    }
-    (bytes[0] == b'P') & (bytes[1] == b'T') & (bytes[2] == b'R')
-}
-
-// Whether the version is there, whole and one that is read.
-fn version_fits(bytes: &[u8]) -> bool
-    ensures { result ≡ version_fits bytes.now }
-{
-    if bytes.len() < VERSION_END {
-        return false;
-    }
-    wide(bytes[LOW_AT]) + 256 * wide(bytes[HIGH_AT]) == VERSION
-}
+use rules::state::Size;
 
 // The mode that a mode byte stands for, which may be out of range.
 fn mode_of(byte: u8) -> u32
@@ -42,38 +13,44 @@ fn mode_of(byte: u8) -> u32
     if byte == PLAIN_BYTE {
         Ring::PLAIN_MODE
     } else {
-        wide(byte)
+        u32::from(byte)
     }
 }
 
 // What the three bytes of a set-up say.
-fn set_up(pages: u8, slots: u8, mode: u8) -> Header
+fn set_up(pages: u8, slots: u8, mode: u8) -> Result<Size, Refusal>
     ensures { result ≡ set_up pages slots mode }
 {
-    let n = wide(pages);
-    let s = wide(slots);
-    let m = mode_of(mode);
-    if Ring::accepts(n, s, m) {
-        return Header::Ready(n, s, m);
+    let size = Size {
+        pages: u32::from(pages),
+        slots: u32::from(slots),
+        mode: mode_of(mode),
+    };
+    if Ring::accepts(size.pages, size.slots, size.mode) {
+        Ok(size)
+    } else {
+        Err(Refusal::Sizes)
     }
-    Header::Refused(Refusal::Sizes)
 }
 
-// What the header says, or the first refusal that applies.
-pub fn header(bytes: &[u8]) -> Header
+// The set-up that the header says, with the mode that the ring gets, or the first refusal that applies.
+pub fn header(bytes: &[u8]) -> Result<Size, Refusal>
     ensures { header_gives result ≡ header_rule bytes.now }
 {
     if MOST_LENGTH < bytes.len() {
-        return Header::Refused(Refusal::Mark);
+        return Err(Refusal::Mark);
     }
-    if !marked(bytes) {
-        return Header::Refused(Refusal::Mark);
+    let [b'P', b'T', b'R', rest @ ..] = bytes else {
+        return Err(Refusal::Mark);
+    };
+    let [low, high, rest @ ..] = rest else {
+        return Err(Refusal::Version);
+    };
+    if u16::from_le_bytes([*low, *high]) != VERSION {
+        return Err(Refusal::Version);
     }
-    if !version_fits(bytes) {
-        return Header::Refused(Refusal::Version);
-    }
-    if bytes.len() < FIRST_ACTION {
-        return Header::Refused(Refusal::Sizes);
-    }
-    set_up(bytes[PAGES_AT], bytes[SLOTS_AT], bytes[MODE_AT])
+    let [pages, slots, mode, ..] = rest else {
+        return Err(Refusal::Sizes);
+    };
+    set_up(*pages, *slots, *mode)
 }

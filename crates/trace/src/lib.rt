@@ -9,5 +9,4 @@ pub mod reader; // the reader of a trace, which keeps hold of its bytes
 
 // what a caller names
 pub use encode::{put_action, put_header};
-pub use parts::{Header, Put};
 pub use reader::{TraceReader, replay};

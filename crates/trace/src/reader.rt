@@ -38,10 +38,7 @@ impl<'a> TraceReader<'a> {
     pub fn moved(self, at: usize) -> TraceReader<'a>
         ensures { (result.bytes ≡ self.entry.bytes) × (result.at ≡ at) }
     {
-        TraceReader {
-            bytes: self.bytes,
-            at,
-        }
+        TraceReader { at, ..self }
     }
 
     // The header, then the actions from the place on, made one by one on the fresh ring that the header says; their answers are in the buffer that is lent.

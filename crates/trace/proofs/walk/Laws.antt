@@ -6,32 +6,31 @@ use mathlib.Core.Bool.{Bool, true, false}
 use mathlib.Core.List.{List, [], ◌∷◌}
 use Prim.Native.Nat.{ℕ, ◌+◌, ◌-◌, ◌≤◌}
 use native.Mathlib.Omega.{arith}
-use borrow.Author.Tests.{ltb-false, eq-eqb, ne_eqb}
-use lib.Dec.{eqb, ltb}
+use borrow.Author.Tests.{eq-eqb, ne_eqb}
+use Rattle.std.proofs.Math.Nat.{min-le_right}
+use lib.Dec.{eqb}
+use Rattle.std.specs.Prelude.{Result, Ok, Err}
 use lib.ListN.{length, take, drop, length-drop}
 use lib.Seq.{take_all}
 use Rattle.rules.specs.Lists.{first}
 use Rattle.rules.specs.State.{size_of, State}
+use Rattle.rules.specs.SetUp.{fresh_ring}
 use Rattle.rules.specs.Shape.{size_fits}
 use Rattle.rules.specs.Actions.{Decoded, byte_at, decoded, Decodes}
 use Rattle.rules.specs.Replay.{told_replay, ran_buffer, buffer_fits, buffer_rule, refused_replay, ran, replay_rule, ReplayOutcome}
 use Rattle.trace.specs.Header.{mode_of, set_up, pages_at, slots_at, mode_at, set_up_in, header_rows, header_of}
-use Rattle.trace.specs.Replays.{walk_place, walk_bytes, walk_actions, whole_to, walked, header_ring, replayed_by, replayed_from, NineRight}
+use Rattle.trace.specs.Replays.{walk_place, walk_bytes, walk_actions, whole_to, walked, replayed_by, replayed_from, NineRight}
+use Rattle.rules.specs.declared.state.Size.{Size}
 use Rattle.rules.specs.declared.state.Refusal.{Refusal}
 use Rattle.rules.specs.declared.state.Refusal.TheVariants as refusal
 use Rattle.rules.specs.declared.state.Answer.{Answer}
 use Rattle.rules.specs.declared.state.Answer.TheVariants as answer
-use Rattle.trace.specs.declared.parts.Header.{Header}
-use Rattle.trace.specs.declared.parts.Header.TheVariants.{Ready, Refused}
 use Rattle.rules.proofs.Lists.{by_bool, by_cond, by-eq}
 use Rattle.rules.proofs.actions.Laws.{stop-within, decodes}
 use Rattle.rules.proofs.actions.Shift.{shifted, decoded-drop}
 
 pub place-within : (len at : ℕ) → walk_place len at ≤ len
-place-within len at =
-    by_cond (λ (k : ℕ). k ≤ len) (ltb len at)
-    (λ e. omega arith)
-    (λ e. let l = ltb-false len at e in omega arith)
+place-within len at = min-le_right at len
 
 -- ---- the header
 
@@ -49,19 +48,19 @@ OfHeader refusal.Action = ⊥
 OfHeader refusal.Room = ⊥
 
 -- what it says is a set-up that a ring accepts, or a refusal of its own
-abbrev pub Accepts : Header → Type 0
-Accepts (Ready pages slots mode) = size_fits (size_of pages slots mode) ≡ true
-Accepts (Refused why) = OfHeader why
+abbrev pub Accepts : Result Size Refusal → Type 0
+Accepts (Ok size) = size_fits size ≡ true
+Accepts (Err why) = OfHeader why
 
 set-up-accepts : (pages slots mode : ℕ) → Accepts (set_up pages slots mode)
 set-up-accepts pages slots mode = by_cond Accepts (size_fits (size_of pages slots (mode_of mode))) (λ e. e) (λ e. tt)
 
 -- what holds beside each test of a list, and otherwise, holds of the first that passes
-abbrev Each : (Header → Type 0) → List (Bool × Header) → Type 0
+abbrev Each : (Result Size Refusal → Type 0) → List (Bool × Result Size Refusal) → Type 0
 Each P [] = Unit {0}
 Each P (row ∷ rows) = P row.1 × Each P rows
 
-first_holds : (P : Header → Type 0) (rows : List (Bool × Header)) (otherwise : Header) → Each P rows → P otherwise → P (first rows otherwise)
+first_holds : (P : Result Size Refusal → Type 0) (rows : List (Bool × Result Size Refusal)) (otherwise : Result Size Refusal) → Each P rows → P otherwise → P (first rows otherwise)
 first_holds P [] otherwise hs h = h
 first_holds P (row ∷ rows) otherwise hs h = by_cond P row.0 (λ e. hs.0) (λ e. first_holds P rows otherwise hs.1 h)
 
@@ -70,7 +69,7 @@ header-accepts bytes =
     first_holds Accepts (header_rows bytes) (set_up_in bytes) (tt, (tt, (tt, (tt, tt))))
     (set-up-accepts (byte_at bytes pages_at) (byte_at bytes slots_at) (byte_at bytes mode_at))
 
-pub ready-fits : (bytes : List ℕ) {pages slots mode : ℕ} → header_of bytes ≡ Ready pages slots mode → size_fits (size_of pages slots mode) ≡ true
+pub ready-fits : (bytes : List ℕ) {pages slots mode : ℕ} → header_of bytes ≡ Ok (size_of pages slots mode) → size_fits (size_of pages slots mode) ≡ true
 ready-fits bytes e = subst Accepts e (header-accepts bytes)
 
 -- ---- a walk that begins at `from`
@@ -146,11 +145,11 @@ module _ (bytes : List ℕ) (at : ℕ) where
   header-not-action : (why : Refusal) → OfHeader why → why ≡ refusal.Action → ⊥
   header-not-action why h e = subst OfHeader e h
 
-  by_right : (buffer : List ℕ) (h : Header) → Accepts h → NineRight bytes (replayed_by h bytes at buffer)
-  by_right buffer (Refused why) ok = refused-right why (refused_replay why) (header-not-action why ok) refl
-  by_right buffer (Ready pages slots mode) ok =
+  by_right : (buffer : List ℕ) (h : Result Size Refusal) → Accepts h → NineRight bytes (replayed_by h bytes at buffer)
+  by_right buffer (Err why) ok = refused-right why (refused_replay why) (header-not-action why ok) refl
+  by_right buffer (Ok size) ok =
       by_cond (NineRight bytes) (buffer_fits (walk_actions bytes at) (length buffer))
-      (λ e. walked-right (header_ring pages slots mode))
+      (λ e. walked-right (fresh_ring size))
       (λ e. refused-right refusal.Room (refused_replay refusal.Room) room-not-action refl)
 
   pub nine-right : (buffer : List ℕ) → NineRight bytes (replayed_from bytes at buffer)
@@ -160,10 +159,10 @@ module _ (bytes : List ℕ) (at : ℕ) where
 -- ---- a run whose set-up is as it should be: its answer tells whether the buffer was long enough
 
 module _ (pages slots mode : ℕ) (bytes buffer : List ℕ) (fits : size_fits (size_of pages slots mode) ≡ true) where
-  pub rule-runs : buffer_fits (decoded bytes) (length buffer) ≡ true → replay_rule pages slots mode bytes buffer ≡ ran (header_ring pages slots mode) (decoded bytes)
+  pub rule-runs : buffer_fits (decoded bytes) (length buffer) ≡ true → replay_rule pages slots mode bytes buffer ≡ ran (fresh_ring (size_of pages slots mode)) (decoded bytes)
   rule-runs enough = rw (fits, enough)
 
-  pub rule-fills : buffer_fits (decoded bytes) (length buffer) ≡ true → buffer_rule pages slots mode bytes buffer ≡ ran_buffer (header_ring pages slots mode) (decoded bytes) buffer
+  pub rule-fills : buffer_fits (decoded bytes) (length buffer) ≡ true → buffer_rule pages slots mode bytes buffer ≡ ran_buffer (fresh_ring (size_of pages slots mode)) (decoded bytes) buffer
   rule-fills enough = rw (fits, enough)
 
   pub rule-short : buffer_fits (decoded bytes) (length buffer) ≡ false → replay_rule pages slots mode bytes buffer ≡ refused_replay refusal.Room

@@ -1,31 +1,31 @@
 -- `walk::replay_from` is the definition: by the header, and by the answer of `Ring::replay`, which refuses nothing but the buffer, since the set-up
 -- of a header is accepted.
 -- Assumes nothing.
-use Rattle.std.proofs.Common.{◌≡◌, true, ℕ, ◌+◌, ◌-◌, ◌≤◌, List, length, take, drop, arith, ap, sym, ◌∙◌}
+use Rattle.std.proofs.Common.{Ok, ◌≡◌, true, ℕ, ◌+◌, ◌-◌, ◌≤◌, List, length, take, drop, arith, ap, sym, ◌∙◌}
 use Rattle.rules.specs.State.{size_of}
+use Rattle.rules.specs.SetUp.{fresh_ring}
 use Rattle.rules.specs.Shape.{size_fits}
 use Rattle.rules.specs.Actions.{Decoded, decoded}
 use Rattle.rules.specs.Replay.{ran_buffer, buffer_fits, buffer_rule, ran, replay_rule, ReplayOutcome}
 use Rattle.ring.specs.Replay.{replay_outcome}
 use Rattle.trace.specs.Header.{HeaderOutcome, header_of}
-use Rattle.trace.specs.Replays.{walk_place, walk_bytes, walk_actions, walked, told_from, header_ring, replayed_from, buffer_from}
+use Rattle.trace.specs.Replays.{walk_place, walk_bytes, walk_actions, walked, told_from, replayed_from, buffer_from}
 use Rattle.rules.specs.declared.state.Answer.TheVariants.{Accepted}
 use Rattle.ring.specs.declared.state.Replay.{Replay}
-use Rattle.trace.specs.declared.parts.Header.TheVariants.{Ready}
 use Rattle.rules.proofs.actions.Shift.{shifted}
 use Rattle.trace.proofs.walk.Laws.{ready-fits, walk-part, walk_same, walk-fits, walk-stop, rule-runs, rule-fills, rule-short, rule-keeps, accepted-fits, refused-short}
 use Rattle.trace.proofs.walk.replay_from.Goals as goal
 
 -- a header that says a set-up, and what `Ring::replay` gave of the bytes from a place on
 record Run (bytes buffer : List ℕ) (place pages slots mode from : ℕ) (r : Replay) (then : List ℕ) : Type 0 where
-  pub says : header_of bytes ≡ Ready pages slots mode
+  pub says : header_of bytes ≡ Ok (size_of pages slots mode)
   pub begins : from ≡ walk_place (length bytes) place
   pub gave : replay_outcome r ≡ replay_rule pages slots mode (walk_bytes bytes place) buffer
   pub filled : then ≡ buffer_rule pages slots mode (walk_bytes bytes place) buffer
 
 -- .. told with the part of the bytes that the code passes on
 run_of : {bytes buffer : List ℕ} {place pages slots mode from : ℕ} {r : Replay} {then : List ℕ} →
-    header_of bytes ≡ Ready pages slots mode →
+    header_of bytes ≡ Ok (size_of pages slots mode) →
     from ≡ walk_place (length bytes) place →
     (replay_outcome r ≡ replay_rule pages slots mode (take (length bytes - from) (drop from bytes)) buffer)
     × (then ≡ buffer_rule pages slots mode (take (length bytes - from) (drop from bytes)) buffer) →
@@ -58,7 +58,7 @@ module _ {bytes buffer : List ℕ} {place pages slots mode from : ℕ} {r : Repl
     enough : buffer_fits (decoded left) (length buffer) ≡ true
     enough = accepted-fits pages slots mode left buffer accepts (sym (ap (λ (o : ReplayOutcome). o.answer) w.gave) ∙ ok)
 
-    runs : replay_outcome r ≡ ran (header_ring pages slots mode) (decoded left)
+    runs : replay_outcome r ≡ ran (fresh_ring (size_of pages slots mode)) (decoded left)
     runs = w.gave ∙ rule-runs pages slots mode left buffer accepts enough
 
     stop-within : from + r.stop ≤ length bytes
@@ -69,7 +69,7 @@ module _ {bytes buffer : List ℕ} {place pages slots mode from : ℕ} {r : Repl
     whole : {q : ReplayOutcome} → q ≡ told_from (length bytes) from (replay_outcome r) → (q ≡ replayed_from bytes place buffer) × (then ≡ buffer_from bytes place buffer)
     unfolding replayed_from buffer_from
     whole e =
-        let ring = header_ring pages slots mode in
+        let ring = fresh_ring (size_of pages slots mode) in
         let room = fits-same ∙ enough in
         let all =
         e
@@ -92,23 +92,23 @@ module _ {bytes buffer : List ℕ} {place pages slots mode from : ℕ} {r : Repl
         rw (w.says, room) (w.filled ∙ rule-keeps pages slots mode left buffer accepts less),
       )
 
-pub returns-in-Refused : goal.returns-in-Refused
+pub returns-in-Err : goal.returns-in-Err
 unfolding replayed_from buffer_from
-returns-in-Refused c =
-    let says = sym (ap (λ (h : HeaderOutcome). h.header) c.in-Refused.ensures) in
+returns-in-Err c =
+    let says = sym (ap (λ (h : HeaderOutcome). h.header) c.in-Err.ensures) in
     (rw says c.refused_replay.ensures, rw says)
 
 pub told_from-requires : goal.told_from-requires
 told_from-requires c =
-    let w = run_of (sym (ap (λ (h : HeaderOutcome). h.header) c.in-Ready.ensures)) c.walk_place-from.ensures c.replay-run.ensures in
+    let w = run_of (sym (ap (λ (h : HeaderOutcome). h.header) c.in-Ok.ensures)) c.min-from.ensures c.replay-run.ensures in
     omega (arith, stop-within w c.in-Accepted.is)
 
 pub returns-in-Accepted : goal.returns-in-Accepted
 returns-in-Accepted c =
-    let w = run_of (sym (ap (λ (h : HeaderOutcome). h.header) c.in-Ready.ensures)) c.walk_place-from.ensures c.replay-run.ensures in
+    let w = run_of (sym (ap (λ (h : HeaderOutcome). h.header) c.in-Ok.ensures)) c.min-from.ensures c.replay-run.ensures in
     whole w c.in-Accepted.is c.told_from.ensures
 
 pub returns-in_default : goal.returns-in_default
 returns-in_default c =
-    let w = run_of (sym (ap (λ (h : HeaderOutcome). h.header) c.in-Ready.ensures)) c.walk_place-from.ensures c.replay-run.ensures in
+    let w = run_of (sym (ap (λ (h : HeaderOutcome). h.header) c.in-Ok.ensures)) c.min-from.ensures c.replay-run.ensures in
     short w c.in_default.not-Accepted
