@@ -1,34 +1,26 @@
 // The program's arguments, which are any bytes.
+ghost use Rattle.std.specs.Prelude.{length};
 ghost use Rattle.io.specs.Counts.{IsPrefixLen};
 
 use std::env::{Env, FillError};
 
-// An argument's bytes at the start of a buffer, and how many there are: none where it is missing or longer than the buffer. Argument 0 is the program's
-// own name.
-pub fn argument<R: Env>(rt: &R, i: usize, buffer: &mut [u8]) -> usize
-    ensures { IsPrefixLen result buffer.new }
+// An argument's bytes, in the buffer that is lent. One that is missing or longer than the buffer is an empty name. Argument 0 is the program's own name.
+pub fn argument<'a, R: Env>(rt: &R, i: usize, buffer: &'a mut [u8]) -> &'a [u8]
+    ensures { IsPrefixLen (length result.now) buffer.old }
 {
     match rt.arg(i, buffer) {
-        Ok(count) => count,
-        Err(_) => 0,
+        Ok(count) => &buffer[..count],
+        Err(_) => &[],
     }
 }
 
 // Whether there is an argument of this number.
 fn is_given<R: Env>(rt: &R, i: usize) -> bool {
     let mut first = [0u8; 1];
-    match rt.arg(i, &mut first) {
-        Err(FillError::NotPresent) => false,
-        _ => true,
-    }
+    !matches!(rt.arg(i, &mut first), Err(FillError::NotPresent))
 }
 
 // How many arguments there are, the program's own name among them.
 pub fn argument_count<R: Env>(rt: &R) -> usize {
-    for i in 0..usize::MAX {
-        if !is_given(rt, i) {
-            return i;
-        }
-    }
-    usize::MAX
+    (0..usize::MAX).take_while(|i| is_given(rt, *i)).count()
 }

@@ -13,8 +13,8 @@ mod status; // how a program ended
 
 // what a caller uses
 pub use arguments::{argument, argument_count};
-pub use load::{Loaded, read_file};
+pub use load::{Unreadable, read_file};
 pub use names::{NAME, name_buffer};
-pub use output::is_piped;
+pub use output::{STDERR, STDOUT, is_piped};
 pub use status::{Status, tell};
 pub use words::is_word;

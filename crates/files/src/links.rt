@@ -11,8 +11,6 @@ const NO_TEXT: i32 = 84;
 // Opens the file of an argument by its link.
 pub(crate) fn open_link<R: Files>(rt: &R, argument: usize) -> Result<R::File, Error> {
     let link = InlineText::<64>::of(format_args!("/proc/self/fd/7/{argument}"));
-    match fs::symlink_metadata(rt, link.as_str()) {
-        Ok(_) => fs::open(rt, link.as_str()),
-        Err(_) => Err(Error::from_raw_os_error(NO_TEXT)),
-    }
+    fs::symlink_metadata(rt, link.as_str()).map_err(|_| Error::from_raw_os_error(NO_TEXT))?;
+    fs::open(rt, link.as_str())
 }

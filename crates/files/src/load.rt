@@ -1,5 +1,5 @@
 // The bytes of a file, or of standard input.
-ghost use Rattle.std.specs.Prelude.{◌≡◌, IfOk};
+ghost use Rattle.std.specs.Prelude.{length, IfOk};
 ghost use Rattle.io.specs.Counts.{IsPrefixLen};
 
 use crate::links::open_link;
@@ -9,48 +9,39 @@ use std::fs::Files;
 use std::io::{Error, Input, Read};
 use std::str::from_utf8;
 
-// What was read of a file.
-#[derive(Clone, Copy)]
-pub struct Loaded {
-    // whether it could be read
-    pub good: bool,
-    // how many bytes came
-    pub count: usize,
-}
+// A file that cannot be read. A line on standard error has said why.
+#[derive(Clone, Copy, Debug, PartialEq, Eq)]
+pub struct Unreadable;
 
 // Reads until the buffer is full or the file ends, and says how many bytes came.
 fn read_all<F: Read>(file: &mut F, bytes: &mut [u8]) -> Result<usize, Error>
     ensures { IfOk result (λ n. IsPrefixLen n bytes.new) }
 {
     let mut done: usize = 0;
+    // A while, and no step by one: each read alone says how many bytes came.
     while done < bytes.len() {
         let n = file.read(&mut bytes[done..])?;
         if n == 0 {
             return Ok(done);
         }
-        done = done + n;
+        done += n;
     }
     Ok(done)
 }
 
-// What stands for a file that cannot be read: a line on standard error says why.
-fn unreadable(name: &[u8], error: Error) -> Loaded
-    ensures { result.count ≡ 0 }
-{
+// The line on standard error that says why a file cannot be read.
+fn told_unreadable(name: &[u8], error: Error) -> Unreadable {
     complain(name, error);
-    Loaded {
-        good: false,
-        count: 0,
-    }
+    Unreadable
 }
 
 // An open file, or standard input.
-fn read_open<F: Read>(file: &mut F, name: &[u8], bytes: &mut [u8]) -> Loaded
-    ensures { IsPrefixLen result.count bytes.new }
+fn read_open<'a, F: Read>(file: &mut F, name: &[u8], bytes: &'a mut [u8]) -> Result<&'a [u8], Unreadable>
+    ensures { IfOk result (λ read. IsPrefixLen (length read.now) bytes.old) }
 {
     match read_all(file, bytes) {
-        Ok(count) => Loaded { good: true, count },
-        Err(error) => unreadable(name, error),
+        Ok(count) => Ok(&bytes[..count]),
+        Err(error) => Err(told_unreadable(name, error)),
     }
 }
 
@@ -63,9 +54,14 @@ fn open_named<R: Files>(rt: &R, argument: usize, name: &[u8]) -> Result<R::File,
 }
 
 // As much of a file as the buffer has room for, where its name is the argument of this number; the name - is standard input. Where it cannot be read, a
-// line on standard error says why, and no byte is counted.
-pub fn read_file<R: Files + Input>(rt: &R, argument: usize, name: &[u8], bytes: &mut [u8]) -> Loaded
-    ensures { IsPrefixLen result.count bytes.new }
+// line on standard error says why.
+pub fn read_file<'a, R: Files + Input>(
+    rt: &R,
+    argument: usize,
+    name: &[u8],
+    bytes: &'a mut [u8],
+) -> Result<&'a [u8], Unreadable>
+    ensures { IfOk result (λ read. IsPrefixLen (length read.now) bytes.old) }
 {
     if text::is_input(name) {
         let mut input = rt.reader();
@@ -73,6 +69,6 @@ pub fn read_file<R: Files + Input>(rt: &R, argument: usize, name: &[u8], bytes: 
     }
     match open_named(rt, argument, name) {
         Ok(mut file) => read_open(&mut file, name, bytes),
-        Err(error) => unreadable(name, error),
+        Err(error) => Err(told_unreadable(name, error)),
     }
 }

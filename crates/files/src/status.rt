@@ -2,8 +2,8 @@
 // listens. Where nobody does, nothing is told.
 const STATUS_FILENO: i32 = 3;
 
-// What a program has to tell, the worst last.
-#[derive(Clone, Copy)]
+// What a program has to tell, the worst last. What is told is its number, as a digit.
+#[derive(Clone, Copy, Debug, PartialEq, Eq)]
 pub enum Status {
     // all was read whole
     Whole,
@@ -15,17 +15,8 @@ pub enum Status {
     NotWritten,
 }
 
-fn digit(status: Status) -> u8 {
-    match status {
-        Status::Whole => b'0',
-        Status::Refused => b'1',
-        Status::WrongUse => b'2',
-        Status::NotWritten => b'3',
-    }
-}
-
 // The digit, and nothing more.
 pub fn tell(status: Status) {
-    let byte = [digit(status)];
-    io::write_all(STATUS_FILENO, &byte);
+    let digit = b'0' + status as u8;
+    io::write_all(STATUS_FILENO, &[digit]);
 }
