@@ -1,6 +1,6 @@
 // A trace in each of the forms: text, csv, receipt and plain.
-use crate::print::{action_lines, set_up_line};
-use crate::totals::{Totals, one_trace, one_unreadable, only_written};
+use crate::print::action_lines;
+use crate::totals::{Kind, Totals};
 use ring::replay::NUMBERS_PER_ANSWER;
 use ring::{Answer, Receipt};
 use rules::state::Size;
@@ -15,7 +15,8 @@ pub const BYTES: usize = MOST_LENGTH + 1;
 // Room for the answers of the longest trace: one to each byte after its header.
 pub const ANSWERS: usize = NUMBERS_PER_ANSWER * (MOST_LENGTH - FIRST_ACTION);
 
-#[derive(Clone, Copy)]
+// Four forms and no more, each named by a word, so that an enum and a `match` are all that chooses between them.
+#[derive(Clone, Copy, PartialEq, Eq)]
 pub enum Form {
     // each action with its answer, a refusal, and the receipt
     Text,
@@ -27,36 +28,16 @@ pub enum Form {
     Plain,
 }
 
-// The form that a word names, or none.
+// What is told of a trace: its name and bytes, and what its replay answered.
 #[derive(Clone, Copy)]
-pub enum Asked {
-    Is(Form),
-    Other,
-}
-
-pub fn form_named(name: &[u8]) -> Asked {
-    if files::is_word(name, b"text") {
-        return Asked::Is(Form::Text);
-    }
-    if files::is_word(name, b"csv") {
-        return Asked::Is(Form::Csv);
-    }
-    if files::is_word(name, b"receipt") {
-        return Asked::Is(Form::Receipt);
-    }
-    if files::is_word(name, b"plain") {
-        return Asked::Is(Form::Plain);
-    }
-    Asked::Other
-}
-
-// What is told of a trace beside its actions.
-#[derive(Clone, Copy)]
-struct Told {
+struct Told<'a> {
+    name: &'a [u8],
+    bytes: &'a [u8],
+    answers: &'a [u64],
+    made: usize,
     covers: Covers,
     size: Size,
     receipt: Receipt,
-    made: usize,
 }
 
 // The number of a trace's refusal, 0 for none.
@@ -67,142 +48,130 @@ fn refusal_of(answer: Answer) -> u32 {
     }
 }
 
-fn replay_told(bytes: &[u8], answers: &mut [u64]) -> Told {
-    let replay = trace::replay(bytes, answers);
-    let ring = replay.ring;
-    let size = ring.size;
-    let receipt = ring.receipt();
-    let answer = replay.answer;
-    let covers = Covers {
-        bytes: bytes.len() as u64,
-        refusal: refusal_of(answer),
-        stop: replay.stop as u64,
-    };
-    Told {
-        covers,
-        size,
-        receipt,
-        made: replay.made,
-    }
-}
-
-// The set-up, the actions made, the refusal and the receipt.
-fn text_form(name: &[u8], bytes: &[u8], answers: &[u64], told: Told) -> bool {
-    let covers = told.covers;
-    let size = told.size;
-    let receipt = told.receipt;
-    let mut good = text::trace_heading(name);
-    if covers.has_ring() {
-        good = set_up_line(size) & good;
-    }
-    good = action_lines(bytes, answers, told.made, false) & good;
-    if !covers.is_whole() {
-        good = text::trace_line(covers) & good;
-    }
-    text::trace_receipt(name, covers, size, receipt) & good
-}
-
-// The actions made; a refusal goes to standard error.
-fn csv_form(name: &[u8], bytes: &[u8], answers: &[u64], told: Told) -> bool {
-    let covers = told.covers;
-    let mut good = text::csv_heading();
-    good = action_lines(bytes, answers, told.made, true) & good;
-    if !covers.is_whole() {
-        text::error_refusal(name, covers);
-    }
-    good
-}
-
-fn receipt_form(name: &[u8], told: Told) -> bool {
-    let covers = told.covers;
-    let size = told.size;
-    let receipt = told.receipt;
-    text::trace_receipt(name, covers, size, receipt)
-}
-
-fn plain_form(name: &[u8], told: Told) -> bool {
-    let covers = told.covers;
-    let size = told.size;
-    let receipt = told.receipt;
-    text::plain_receipt(name, covers, size, receipt)
-}
-
-fn show_trace(form: Form, name: &[u8], bytes: &[u8], answers: &mut [u64]) -> Totals {
-    let told = replay_told(bytes, answers);
-    let good = match form {
-        Form::Text => text_form(name, bytes, answers, told),
-        Form::Csv => csv_form(name, bytes, answers, told),
-        Form::Receipt => receipt_form(name, told),
-        Form::Plain => plain_form(name, told),
-    };
-    let covers = told.covers;
-    let receipt = told.receipt;
-    one_trace(covers.is_whole(), receipt.complete, good)
-}
-
-// What stands for a file that can't be read.
-fn show_unreadable(form: Form, name: &[u8]) -> Totals {
-    let good = match form {
-        Form::Text => {
-            let headed = text::trace_heading(name);
-            text::unreadable_receipt(name) & headed
+impl<'a> Told<'a> {
+    fn new(name: &'a [u8], bytes: &'a [u8], answers: &'a mut [u64]) -> Told<'a> {
+        let replay = trace::replay(bytes, answers);
+        Told {
+            name,
+            bytes,
+            answers,
+            made: replay.made,
+            covers: Covers {
+                bytes: bytes.len() as u64,
+                refusal: refusal_of(replay.answer),
+                stop: replay.stop as u64,
+            },
+            size: replay.ring.size,
+            receipt: replay.ring.receipt(),
         }
-        Form::Csv => text::csv_heading(),
-        Form::Receipt => text::unreadable_receipt(name),
-        Form::Plain => text::plain_unreadable(name),
-    };
-    one_unreadable(good)
-}
-
-// What parts a section from the one before.
-pub fn show_break(first: bool) -> Totals {
-    if first {
-        return only_written(true);
     }
-    only_written(text::section_break())
-}
 
-// The file that argument i names.
-pub fn show_file<R: Files + Input>(
-    rt: &R,
-    form: Form,
-    i: usize,
-    name: &[u8],
-    bytes: &mut [u8],
-    answers: &mut [u64],
-) -> Totals {
-    let loaded = files::read_file(rt, i, name, bytes);
-    if !loaded.good {
-        return show_unreadable(form, name);
+    fn set_up_line(&self) -> bool {
+        let size = self.size;
+        text::fresh_line(size.pages, size.slots, size.mode, Answer::Accepted)
     }
-    let n = loaded.count;
-    show_trace(form, name, &bytes[..n], answers)
+
+    // The set-up, the actions made, the refusal and the receipt.
+    fn text(&self) -> bool {
+        let mut good = text::trace_heading(self.name);
+        if self.covers.has_ring() {
+            good &= self.set_up_line();
+        }
+        good &= action_lines(self.bytes, self.answers, self.made, |_, _, action, numbers| {
+            text::numbers_line(action, numbers)
+        });
+        if !self.covers.is_whole() {
+            good &= text::trace_line(self.covers);
+        }
+        self.receipt() & good
+    }
+
+    // The actions made; a refusal goes to standard error.
+    fn csv(&self) -> bool {
+        let mut good = text::csv_heading();
+        good &= action_lines(self.bytes, self.answers, self.made, |i, at, action, numbers| {
+            text::csv_line(i as u64, at as u64, action, numbers)
+        });
+        if !self.covers.is_whole() {
+            text::error_refusal(self.name, self.covers);
+        }
+        good
+    }
+
+    fn receipt(&self) -> bool {
+        text::trace_receipt(self.name, self.covers, self.size, self.receipt)
+    }
+
+    fn plain(&self) -> bool {
+        text::plain_receipt(self.name, self.covers, self.size, self.receipt)
+    }
+
+    fn kind(&self) -> Kind {
+        if !self.covers.is_whole() {
+            Kind::Refused
+        } else if self.receipt.complete {
+            Kind::Complete
+        } else {
+            Kind::Incomplete
+        }
+    }
 }
 
-// The last section of the forms that have receipts alone: how many there are of each kind.
-pub fn show_end(form: Form, all: Totals) -> Totals {
-    let good = match form {
-        Form::Receipt => {
-            let parted = text::section_break();
-            text::totals_line(
-                all.count(),
-                all.complete,
-                all.incomplete,
-                all.refused,
-                all.unreadable,
-            ) & parted
+impl Form {
+    // The form that a word names.
+    pub fn named(name: &[u8]) -> Option<Form> {
+        match name {
+            b"text" => Some(Form::Text),
+            b"csv" => Some(Form::Csv),
+            b"receipt" => Some(Form::Receipt),
+            b"plain" => Some(Form::Plain),
+            _ => None,
         }
-        Form::Plain => {
-            let parted = text::section_break();
-            text::plain_totals(
-                all.count(),
-                all.complete,
-                all.incomplete,
-                all.refused,
-                all.unreadable,
-            ) & parted
+    }
+
+    fn show_trace(self, told: &Told<'_>) -> Totals {
+        let written = match self {
+            Form::Text => told.text(),
+            Form::Csv => told.csv(),
+            Form::Receipt => told.receipt(),
+            Form::Plain => told.plain(),
+        };
+        Totals::of_trace(told.kind(), written)
+    }
+
+    // What stands for a file that can't be read.
+    fn show_unreadable(self, name: &[u8]) -> Totals {
+        let written = match self {
+            Form::Text => text::trace_heading(name) & text::unreadable_receipt(name),
+            Form::Csv => text::csv_heading(),
+            Form::Receipt => text::unreadable_receipt(name),
+            Form::Plain => text::plain_unreadable(name),
+        };
+        Totals::of_trace(Kind::Unreadable, written)
+    }
+
+    // The file that argument i names.
+    pub fn show_file<R: Files + Input>(
+        self,
+        rt: &R,
+        i: usize,
+        name: &[u8],
+        bytes: &mut [u8],
+        answers: &mut [u64],
+    ) -> Totals {
+        match files::read_file(rt, i, name, bytes) {
+            Ok(bytes) => self.show_trace(&Told::new(name, bytes, answers)),
+            Err(_) => self.show_unreadable(name),
         }
-        _ => true,
-    };
-    only_written(good)
+    }
+
+    // The last section of the forms that have receipts alone: how many there are of each kind.
+    pub fn show_end(self, all: Totals) -> Totals {
+        let written = match self {
+            Form::Text | Form::Csv => true,
+            Form::Receipt => all.section(text::totals_line),
+            Form::Plain => all.section(text::plain_totals),
+        };
+        Totals::of_text(written)
+    }
 }

@@ -3,85 +3,110 @@ ghost use Rattle.std.specs.Prelude.{◌≡◌};
 ghost use Rattle.replay.specs.Totals.{status_of};
 
 use files::Status;
-use std::num::wrapping_add_u64;
+use std::ops::Add;
+
+// What became of one trace.
+#[derive(Clone, Copy)]
+pub enum Kind {
+    Complete,
+    // read whole, and not complete
+    Incomplete,
+    Refused,
+    Unreadable,
+}
 
 #[derive(Clone, Copy)]
 pub struct Totals {
     pub complete: u64,
-    // read whole, and not complete
     pub incomplete: u64,
     pub refused: u64,
     pub unreadable: u64,
-    // whether all was written
+    // Whether all was written. Beside the counts, and no Result: the files after a line that was not written are read and counted all the same.
     pub written: bool,
 }
 
-pub fn no_traces() -> Totals {
-    Totals {
+impl Totals {
+    pub const NONE: Totals = Totals {
         complete: 0,
         incomplete: 0,
         refused: 0,
         unreadable: 0,
         written: true,
-    }
-}
+    };
 
-// One trace that was read, by whether it was read whole and is complete.
-pub fn one_trace(whole: bool, complete: bool, written: bool) -> Totals {
-    let mut one = no_traces();
-    if !whole {
-        one.refused = 1;
-    } else if complete {
-        one.complete = 1;
-    } else {
-        one.incomplete = 1;
-    }
-    one.written = written;
-    one
-}
-
-pub fn one_unreadable(written: bool) -> Totals {
-    let mut one = no_traces();
-    one.unreadable = 1;
-    one.written = written;
-    one
-}
-
-// What is told of a text that is no trace's.
-pub fn only_written(written: bool) -> Totals {
-    let mut none = no_traces();
-    none.written = written;
-    none
-}
-
-impl Totals {
-    pub fn and(self, more: Totals) -> Totals {
+    // What is told of a text that is no trace's.
+    pub fn of_text(written: bool) -> Totals {
         Totals {
-            complete: wrapping_add_u64(self.complete, more.complete),
-            incomplete: wrapping_add_u64(self.incomplete, more.incomplete),
-            refused: wrapping_add_u64(self.refused, more.refused),
-            unreadable: wrapping_add_u64(self.unreadable, more.unreadable),
-            written: self.written & more.written,
+            written,
+            ..Totals::NONE
+        }
+    }
+
+    // One trace.
+    pub fn of_trace(kind: Kind, written: bool) -> Totals {
+        let none = Totals::of_text(written);
+        match kind {
+            Kind::Complete => Totals {
+                complete: 1,
+                ..none
+            },
+            Kind::Incomplete => Totals {
+                incomplete: 1,
+                ..none
+            },
+            Kind::Refused => Totals { refused: 1, ..none },
+            Kind::Unreadable => Totals {
+                unreadable: 1,
+                ..none
+            },
         }
     }
 
     // How many traces there are.
     pub fn count(self) -> u64 {
-        let read = wrapping_add_u64(self.complete, self.incomplete);
-        wrapping_add_u64(wrapping_add_u64(read, self.refused), self.unreadable)
+        self.complete
+            .wrapping_add(self.incomplete)
+            .wrapping_add(self.refused)
+            .wrapping_add(self.unreadable)
+    }
+
+    // The last section: how many traces there are, of all and of each kind, in the line that a form has for it.
+    pub fn section<F: FnOnce(u64, u64, u64, u64, u64) -> bool>(self, line: F) -> bool
+        requires { F.IsAlwaysCallable line }
+    {
+        let parted = text::section_break();
+        line(
+            self.count(),
+            self.complete,
+            self.incomplete,
+            self.refused,
+            self.unreadable,
+        ) & parted
     }
 
     pub fn status(self) -> Status
         ensures { result ≡ status_of self }
     {
-        if self.written {
-            if (self.refused == 0) & (self.unreadable == 0) {
-                Status::Whole
-            } else {
-                Status::Refused
-            }
-        } else {
+        if !self.written {
             Status::NotWritten
+        } else if self.refused == 0 && self.unreadable == 0 {
+            Status::Whole
+        } else {
+            Status::Refused
+        }
+    }
+}
+
+impl Add for Totals {
+    type Output = Totals;
+
+    fn add(self, more: Totals) -> Totals {
+        Totals {
+            complete: self.complete.wrapping_add(more.complete),
+            incomplete: self.incomplete.wrapping_add(more.incomplete),
+            refused: self.refused.wrapping_add(more.refused),
+            unreadable: self.unreadable.wrapping_add(more.unreadable),
+            written: self.written & more.written,
         }
     }
 }
