@@ -1,13 +1,10 @@
 // The lines of a text, put into a trace one after the other by the trace's own encoder.
-ghost use Rattle.std.specs.Prelude.{◌<◌, ◌≤◌, length};
-
-use crate::line::{Said, find, line_says};
+use crate::line::{Said, line_says};
 use ring::Action;
-use std::num::wrapping_add_u64;
 use trace::{Put, put_action, put_header};
 
 // Why a line is refused.
-#[derive(Clone, Copy)]
+#[derive(Clone, Copy, Debug, PartialEq, Eq)]
 pub enum Why {
     // it says nothing that a text may say
     Unknown,
@@ -19,96 +16,71 @@ pub enum Why {
     Length,
 }
 
-// What a text gives.
-#[derive(Clone, Copy)]
-pub enum Written {
-    // the trace's length
-    Whole(usize),
-    // why a line is refused, and its number
-    Refused(Why, u64),
+impl Why {
+    // In words.
+    pub fn words(self) -> &'static [u8] {
+        match self {
+            Why::Unknown => b"fresh N S MODE, begin VALUE (0 to 4294967295), write or read is wanted",
+            Why::Order => b"fresh N S MODE is wanted first, and once",
+            Why::Sizes => b"refused 8 SIZES: N is 2 to 16, S 1 to 16, mode overwrite or stop",
+            Why::Length => b"refused 6 MARK: the trace is longer than 65536 bytes",
+        }
+    }
+}
+
+// Why a text is refused.
+#[derive(Clone, Copy, Debug, PartialEq, Eq)]
+pub enum Fault {
+    // a line is, which has this number
+    Line(Why, u64),
     // no line says anything
     Nothing,
 }
 
-// What one line gives: the place in the trace after it, or why it is refused.
-#[derive(Clone, Copy)]
-enum Taken {
-    To(usize),
-    Not(Why),
+// A trace in the bytes that are lent, and the place after what was put into it: none before its set-up.
+#[derive(Drop)]
+struct Tape<'a> {
+    out: &'a mut [u8],
+    end: Option<usize>,
 }
 
-// The set-up. The trace is at its start before it, and nowhere else.
-fn take_fresh(out: &mut [u8], at: usize, pages: u32, slots: u32, mode: u32) -> Taken {
-    if at != 0 {
-        return Taken::Not(Why::Order);
+impl<'a> Tape<'a> {
+    fn set_up(&mut self, pages: u32, slots: u32, mode: u32) -> Result<(), Why> {
+        if self.end.is_some() {
+            return Err(Why::Order);
+        }
+        match put_header(self.out, pages, slots, mode) {
+            Put::At(end) => self.end = Some(end),
+            Put::Refused(_) => return Err(Why::Sizes),
+        }
+        Ok(())
     }
-    let put = put_header(out, pages, slots, mode);
-    match put {
-        Put::At(next) => Taken::To(next),
-        Put::Refused(_) => Taken::Not(Why::Sizes),
-    }
-}
 
-fn take_action(out: &mut [u8], at: usize, action: Action) -> Taken {
-    if at == 0 {
-        return Taken::Not(Why::Order);
+    fn act(&mut self, action: Action) -> Result<(), Why> {
+        let at = self.end.ok_or(Why::Order)?;
+        match put_action(self.out, at, action) {
+            Put::At(end) => self.end = Some(end),
+            Put::Refused(_) => return Err(Why::Length),
+        }
+        Ok(())
     }
-    let put = put_action(out, at, action);
-    match put {
-        Put::At(next) => Taken::To(next),
-        Put::Refused(_) => Taken::Not(Why::Length),
-    }
-}
 
-fn take_line(out: &mut [u8], at: usize, line: &[u8]) -> Taken {
-    let said = line_says(line);
-    match said {
-        Said::Nothing => Taken::To(at),
-        Said::Fresh(pages, slots, mode) => take_fresh(out, at, pages, slots, mode),
-        Said::Act(action) => take_action(out, at, action),
-        Said::Unknown => Taken::Not(Why::Unknown),
-    }
-}
-
-// Where the line after this one starts, or the end of the text.
-fn next_line(text: &[u8], from: usize, end: usize) -> usize
-    requires { (from < length text.now) × (from ≤ end) }
-    ensures { from < result }
-{
-    if end < text.len() {
-        end + 1
-    } else {
-        text.len()
-    }
-}
-
-// What all lines gave: a place in the trace past its start, where one said something.
-fn ended(at: usize) -> Written {
-    if at == 0 {
-        Written::Nothing
-    } else {
-        Written::Whole(at)
+    fn line(&mut self, line: &[u8]) -> Result<(), Why> {
+        match line_says(line)? {
+            None => Ok(()),
+            Some(Said::Fresh(pages, slots, mode)) => self.set_up(pages, slots, mode),
+            Some(Said::Act(action)) => self.act(action),
+        }
     }
 }
 
 // The trace of a text, in room for the longest one.
-pub fn write_text(text: &[u8], out: &mut [u8]) -> Written {
-    let mut at: usize = 0;
-    let mut number: u64 = 0;
-    let mut from: usize = 0;
-    while from < text.len() {
-        let end = find(text, from, b'\n');
-        number = wrapping_add_u64(number, 1);
-        let taken = take_line(out, at, &text[from..end]);
-        match taken {
-            Taken::Not(why) => {
-                return Written::Refused(why, number);
-            }
-            Taken::To(next) => {
-                at = next;
-            }
-        }
-        from = next_line(text, from, end);
+pub fn write_text<'a>(text: &[u8], out: &'a mut [u8]) -> Result<&'a [u8], Fault> {
+    let mut tape = Tape { out, end: None };
+    for (number, line) in (1u64..).zip(text.split(|b| *b == b'\n')) {
+        tape.line(line).map_err(|why| Fault::Line(why, number))?;
     }
-    ended(at)
+    let Tape { out, end } = tape;
+    let end = end.ok_or(Fault::Nothing)?;
+    out.get(..end).ok_or(Fault::Nothing)
 }

@@ -1,6 +1,0 @@
--- `write::write_text` is safe and ends. The measure is what is left of the text. Assumes nothing.
-use Rattle.std.proofs.Common.{◌-◌, length}
-use Rattle.encode.proofs.write.write_text.Given as goal
-
-abbrev pub decreases-loop-from : goal.decreases-loop-from
-decreases-loop-from l = length l.text - l.from
