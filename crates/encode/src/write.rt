@@ -1,4 +1,7 @@
 // The lines of a text, put into a trace one after the other by the trace's own encoder.
+ghost use Rattle.std.specs.Prelude.{◌≤◌, length};
+ghost use Rattle.std.specs.Option.{unwrap_or};
+
 use crate::line::{Said, line_says};
 use ring::Action;
 use trace::{Put, put_action, put_header};
@@ -42,6 +45,7 @@ pub enum Fault {
 struct Tape<'a> {
     out: &'a mut [u8],
     end: Option<usize>,
+    ghost within: { unwrap_or end 0 ≤ length out.now },
 }
 
 impl<'a> Tape<'a> {
@@ -82,5 +86,5 @@ pub fn write_text<'a>(text: &[u8], out: &'a mut [u8]) -> Result<&'a [u8], Fault>
     }
     let Tape { out, end } = tape;
     let end = end.ok_or(Fault::Nothing)?;
-    out.get(..end).ok_or(Fault::Nothing)
+    Ok(&out[..end])
 }
