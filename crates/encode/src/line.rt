@@ -38,7 +38,13 @@ pub fn line_says(line: &[u8]) -> Result<Option<Said>, Why> {
     let Some(first) = words.next() else {
         return Ok(None);
     };
-    let said = match (first, words.next(), words.next(), words.next(), words.next()) {
+    let said = match (
+        first,
+        words.next(),
+        words.next(),
+        words.next(),
+        words.next(),
+    ) {
         (b"begin", Some(value), None, _, _) => Said::Act(Action::Begin(number_of(value)?)),
         (b"write", None, _, _, _) => Said::Act(Action::Write),
         (b"read", None, _, _, _) => Said::Act(Action::Read),

@@ -23,7 +23,8 @@ impl Why {
     // In words.
     pub fn words(self) -> &'static [u8] {
         match self {
-            Why::Unknown => b"fresh N S MODE, begin VALUE (0 to 4294967295), write or read is wanted",
+            Why::Unknown =>
+                b"fresh N S MODE, begin VALUE (0 to 4294967295), write or read is wanted",
             Why::Order => b"fresh N S MODE is wanted first, and once",
             Why::Sizes => b"refused 8 SIZES: N is 2 to 16, S 1 to 16, mode overwrite or stop",
             Why::Length => b"refused 6 MARK: the trace is longer than 65536 bytes",

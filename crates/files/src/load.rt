@@ -36,7 +36,11 @@ fn told_unreadable(name: &[u8], error: Error) -> Unreadable {
 }
 
 // An open file, or standard input.
-fn read_open<'a, F: Read>(file: &mut F, name: &[u8], bytes: &'a mut [u8]) -> Result<&'a [u8], Unreadable>
+fn read_open<'a, F: Read>(
+    file: &mut F,
+    name: &[u8],
+    bytes: &'a mut [u8],
+) -> Result<&'a [u8], Unreadable>
     ensures { IfOk result (λ read. IsPrefixLen (length read.now) bytes.old) }
 {
     match read_all(file, bytes) {

@@ -5,7 +5,8 @@ use std::io::Error;
 
 // The library adds the error's number to the system's words; here these stand alone.
 fn system_words(text: &str) -> &str {
-    text.split_once(" (os error ").map_or(text, |(words, _)| words)
+    text.split_once(" (os error ")
+        .map_or(text, |(words, _)| words)
 }
 
 // The line on standard error about a file that cannot be read, with the reason.

@@ -1,21 +1,11 @@
 // A trace in each of the forms: text, csv, receipt and plain.
 use crate::print::action_lines;
 use crate::totals::{Kind, Totals};
-use ring::replay::NUMBERS_PER_ANSWER;
 use ring::{Answer, Receipt};
 use rules::state::Size;
-use std::fs::Files;
-use std::io::Input;
 use text::Covers;
-use trace::parts::{FIRST_ACTION, MOST_LENGTH};
 
-// How many bytes of a file are read: one more than a trace may have, so that a longer file is seen as such.
-pub const BYTES: usize = MOST_LENGTH + 1;
-
-// Room for the answers of the longest trace: one to each byte after its header.
-pub const ANSWERS: usize = NUMBERS_PER_ANSWER * (MOST_LENGTH - FIRST_ACTION);
-
-// Four forms and no more, each named by a word, so that an enum and a `match` are all that chooses between them.
+// An enum and no trait: the form is known by a word at run time, so that a match would choose between four types all the same.
 #[derive(Clone, Copy, PartialEq, Eq)]
 pub enum Form {
     // each action with its answer, a refusal, and the receipt
@@ -30,7 +20,7 @@ pub enum Form {
 
 // What is told of a trace: its name and bytes, and what its replay answered.
 #[derive(Clone, Copy)]
-struct Told<'a> {
+pub struct Told<'a> {
     name: &'a [u8],
     bytes: &'a [u8],
     answers: &'a [u64],
@@ -49,7 +39,7 @@ fn refusal_of(answer: Answer) -> u32 {
 }
 
 impl<'a> Told<'a> {
-    fn new(name: &'a [u8], bytes: &'a [u8], answers: &'a mut [u64]) -> Told<'a> {
+    pub fn new(name: &'a [u8], bytes: &'a [u8], answers: &'a mut [u64]) -> Told<'a> {
         let replay = trace::replay(bytes, answers);
         Told {
             name,
@@ -77,33 +67,38 @@ impl<'a> Told<'a> {
         if self.covers.has_ring() {
             good &= self.set_up_line();
         }
-        good &= action_lines(self.bytes, self.answers, self.made, |_, _, action, numbers| {
-            text::numbers_line(action, numbers)
-        });
+        good &= action_lines(
+            self.bytes,
+            self.answers,
+            self.made,
+            |_, _, action, numbers| { text::numbers_line(action, numbers) },
+        );
         if !self.covers.is_whole() {
             good &= text::trace_line(self.covers);
         }
-        self.receipt() & good
+        self.receipt_by(text::trace_receipt) & good
     }
 
     // The actions made; a refusal goes to standard error.
     fn csv(&self) -> bool {
         let mut good = text::csv_heading();
-        good &= action_lines(self.bytes, self.answers, self.made, |i, at, action, numbers| {
-            text::csv_line(i as u64, at as u64, action, numbers)
-        });
+        good &= action_lines(
+            self.bytes,
+            self.answers,
+            self.made,
+            |i, at, action, numbers| { text::csv_line(i as u64, at as u64, action, numbers) },
+        );
         if !self.covers.is_whole() {
             text::error_refusal(self.name, self.covers);
         }
         good
     }
 
-    fn receipt(&self) -> bool {
-        text::trace_receipt(self.name, self.covers, self.size, self.receipt)
-    }
-
-    fn plain(&self) -> bool {
-        text::plain_receipt(self.name, self.covers, self.size, self.receipt)
+    // The receipt, as a form prints it.
+    fn receipt_by<F: FnOnce(&[u8], Covers, Size, Receipt) -> bool>(&self, print: F) -> bool
+        requires { F.IsAlwaysCallable print }
+    {
+        print(self.name, self.covers, self.size, self.receipt)
     }
 
     fn kind(&self) -> Kind {
@@ -129,18 +124,19 @@ impl Form {
         }
     }
 
-    fn show_trace(self, told: &Told<'_>) -> Totals {
+    // A trace that was read.
+    pub fn show_trace(self, told: &Told<'_>) -> Totals {
         let written = match self {
             Form::Text => told.text(),
             Form::Csv => told.csv(),
-            Form::Receipt => told.receipt(),
-            Form::Plain => told.plain(),
+            Form::Receipt => told.receipt_by(text::trace_receipt),
+            Form::Plain => told.receipt_by(text::plain_receipt),
         };
         Totals::of_trace(told.kind(), written)
     }
 
     // What stands for a file that can't be read.
-    fn show_unreadable(self, name: &[u8]) -> Totals {
+    pub fn show_unreadable(self, name: &[u8]) -> Totals {
         let written = match self {
             Form::Text => text::trace_heading(name) & text::unreadable_receipt(name),
             Form::Csv => text::csv_heading(),
@@ -148,21 +144,6 @@ impl Form {
             Form::Plain => text::plain_unreadable(name),
         };
         Totals::of_trace(Kind::Unreadable, written)
-    }
-
-    // The file that argument i names.
-    pub fn show_file<R: Files + Input>(
-        self,
-        rt: &R,
-        i: usize,
-        name: &[u8],
-        bytes: &mut [u8],
-        answers: &mut [u64],
-    ) -> Totals {
-        match files::read_file(rt, i, name, bytes) {
-            Ok(bytes) => self.show_trace(&Told::new(name, bytes, answers)),
-            Err(_) => self.show_unreadable(name),
-        }
     }
 
     // The last section of the forms that have receipts alone: how many there are of each kind.
