@@ -1,13 +1,14 @@
 // What a line of a text of actions says: its words, parted by blanks, up to a comment.
 use crate::write::Why;
 use ring::{Action, Ring};
+use rules::state::Size;
 use std::str::from_utf8;
 
 // What a line says that has a word.
 #[derive(Clone, Copy)]
 pub enum Said {
-    // a set-up: N, S and mode, in range or not
-    Fresh(u32, u32, u32),
+    // a set-up, in range or not
+    Fresh(Size),
     Act(Action),
 }
 
@@ -49,7 +50,11 @@ pub fn line_says(line: &[u8]) -> Result<Option<Said>, Why> {
         (b"write", None, _, _, _) => Said::Act(Action::Write),
         (b"read", None, _, _, _) => Said::Act(Action::Read),
         (b"fresh", Some(pages), Some(slots), Some(mode), None) => {
-            Said::Fresh(number_of(pages)?, number_of(slots)?, mode_of(mode)?)
+            Said::Fresh(Size {
+                pages: number_of(pages)?,
+                slots: number_of(slots)?,
+                mode: mode_of(mode)?,
+            })
         }
         _ => return Err(Why::Unknown),
     };

@@ -4,6 +4,7 @@ ghost use Rattle.std.specs.Option.{unwrap_or};
 
 use crate::line::{Said, line_says};
 use ring::Action;
+use rules::state::Size;
 use trace::{Put, put_action, put_header};
 
 // Why a line is refused.
@@ -43,18 +44,18 @@ pub enum Fault {
 
 // A trace in the bytes that are lent, and the place after what was put into it: none before its set-up.
 #[derive(Drop)]
-struct Tape<'a> {
+struct TraceBytes<'a> {
     out: &'a mut [u8],
     end: Option<usize>,
     ghost within: { unwrap_or end 0 ≤ length out.now },
 }
 
-impl<'a> Tape<'a> {
-    fn set_up(&mut self, pages: u32, slots: u32, mode: u32) -> Result<(), Why> {
+impl<'a> TraceBytes<'a> {
+    fn set_up(&mut self, size: Size) -> Result<(), Why> {
         if self.end.is_some() {
             return Err(Why::Order);
         }
-        match put_header(self.out, pages, slots, mode) {
+        match put_header(self.out, size.pages, size.slots, size.mode) {
             Put::At(end) => self.end = Some(end),
             Put::Refused(_) => return Err(Why::Sizes),
         }
@@ -73,7 +74,7 @@ impl<'a> Tape<'a> {
     fn line(&mut self, line: &[u8]) -> Result<(), Why> {
         match line_says(line)? {
             None => Ok(()),
-            Some(Said::Fresh(pages, slots, mode)) => self.set_up(pages, slots, mode),
+            Some(Said::Fresh(size)) => self.set_up(size),
             Some(Said::Act(action)) => self.act(action),
         }
     }
@@ -81,11 +82,11 @@ impl<'a> Tape<'a> {
 
 // The trace of a text, in room for the longest one.
 pub fn write_text<'a>(text: &[u8], out: &'a mut [u8]) -> Result<&'a [u8], Fault> {
-    let mut tape = Tape { out, end: None };
+    let mut trace = TraceBytes { out, end: None };
     for (number, line) in (1u64..).zip(text.split(|b| *b == b'\n')) {
-        tape.line(line).map_err(|why| Fault::Line(why, number))?;
+        trace.line(line).map_err(|why| Fault::Line(why, number))?;
     }
-    let Tape { out, end } = tape;
+    let TraceBytes { out, end } = trace;
     let end = end.ok_or(Fault::Nothing)?;
     Ok(&out[..end])
 }
