@@ -39,17 +39,13 @@ pub fn line_says(line: &[u8]) -> Result<Option<Said>, Why> {
     let Some(first) = words.next() else {
         return Ok(None);
     };
-    let said = match (
-        first,
-        words.next(),
-        words.next(),
-        words.next(),
-        words.next(),
-    ) {
-        (b"begin", Some(value), None, _, _) => Said::Act(Action::Begin(number_of(value)?)),
-        (b"write", None, _, _, _) => Said::Act(Action::Write),
-        (b"read", None, _, _, _) => Said::Act(Action::Read),
-        (b"fresh", Some(pages), Some(slots), Some(mode), None) => {
+    // as many words more as a line has, and one
+    let more = [words.next(), words.next(), words.next(), words.next()];
+    let said = match (first, more) {
+        (b"begin", [Some(value), None, ..]) => Said::Act(Action::Begin(number_of(value)?)),
+        (b"write", [None, ..]) => Said::Act(Action::Write),
+        (b"read", [None, ..]) => Said::Act(Action::Read),
+        (b"fresh", [Some(pages), Some(slots), Some(mode), None]) => {
             Said::Fresh(Size {
                 pages: number_of(pages)?,
                 slots: number_of(slots)?,
