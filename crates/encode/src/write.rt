@@ -5,7 +5,7 @@ ghost use Rattle.std.specs.Option.{unwrap_or};
 use crate::line::{Said, line_says};
 use ring::Action;
 use rules::state::Size;
-use trace::{Put, put_action, put_header};
+use trace::{put_action, put_header};
 
 // Why a line is refused.
 #[derive(Clone, Copy, Debug, PartialEq, Eq)]
@@ -55,19 +55,15 @@ impl<'a> TraceBytes<'a> {
         if self.end.is_some() {
             return Err(Why::Order);
         }
-        match put_header(self.out, size.pages, size.slots, size.mode) {
-            Put::At(end) => self.end = Some(end),
-            Put::Refused(_) => return Err(Why::Sizes),
-        }
+        let end = put_header(self.out, size.pages, size.slots, size.mode).map_err(|_| Why::Sizes)?;
+        self.end = Some(end);
         Ok(())
     }
 
     fn act(&mut self, action: Action) -> Result<(), Why> {
         let at = self.end.ok_or(Why::Order)?;
-        match put_action(self.out, at, action) {
-            Put::At(end) => self.end = Some(end),
-            Put::Refused(_) => return Err(Why::Length),
-        }
+        let end = put_action(self.out, at, action).map_err(|_| Why::Length)?;
+        self.end = Some(end);
         Ok(())
     }
 

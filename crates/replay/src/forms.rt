@@ -1,7 +1,7 @@
 // A trace in each of the forms: text, csv, receipt and plain.
 use crate::print::action_lines;
 use crate::totals::{Kind, Totals};
-use ring::{Answer, Receipt};
+use ring::{Answer, Receipt, Refusal};
 use rules::state::Size;
 use text::Covers;
 
@@ -30,11 +30,11 @@ pub struct Told<'a> {
     receipt: Receipt,
 }
 
-// The number of a trace's refusal, 0 for none.
-fn refusal_of(answer: Answer) -> u32 {
+// A trace's refusal, if it was refused.
+fn refusal_of(answer: Answer) -> Option<Refusal> {
     match answer {
-        Answer::Refused(why) => why.number(),
-        _ => 0,
+        Answer::Refused(why) => Some(why),
+        _ => None,
     }
 }
 
