@@ -1,5 +1,5 @@
 -- `words::is_word` is the definition: `==` on slices and the definition both decide whether the lists are the same. Assumes nothing.
-use Rattle.std.proofs.Common.{◌≡◌, ℕ, true, List, length, get_or, eqb, refl}
+use Rattle.std.proofs.Common.{◌≡◌, ℕ, true, List, length, get_or, refl}
 use Rattle.std.proofs.lemmas.Bool.{and_from, and_parts, eq-eqb, eqb-true}
 use Rattle.std.proofs.lemmas.Bool.Decides.{Decides-eqb, same_from_decides}
 use Rattle.std.proofs.lemmas.List.{ext_get_or}
