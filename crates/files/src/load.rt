@@ -29,26 +29,6 @@ fn read_all<F: Read>(file: &mut F, bytes: &mut [u8]) -> Result<usize, Error>
     Ok(done)
 }
 
-// The line on standard error that says why a file cannot be read.
-fn told_unreadable(name: &[u8], error: Error) -> Unreadable {
-    complain(name, error);
-    Unreadable
-}
-
-// An open file, or standard input.
-fn read_open<'a, F: Read>(
-    file: &mut F,
-    name: &[u8],
-    bytes: &'a mut [u8],
-) -> Result<&'a [u8], Unreadable>
-    ensures { IfOk result (λ read. IsPrefixLen (length read.now) bytes.old) }
-{
-    match read_all(file, bytes) {
-        Ok(count) => Ok(&bytes[..count]),
-        Err(error) => Err(told_unreadable(name, error)),
-    }
-}
-
 // Opens the file that an argument names. A path is UTF-8 here; where the name is not, the command lends a link to its file.
 fn open_named<R: Files>(rt: &R, argument: usize, name: &[u8]) -> Result<R::File, Error> {
     match from_utf8(name) {
@@ -57,8 +37,23 @@ fn open_named<R: Files>(rt: &R, argument: usize, name: &[u8]) -> Result<R::File,
     }
 }
 
+// Reads the file that an argument names, or standard input.
+fn read_named<R: Files + Input>(
+    rt: &R,
+    argument: usize,
+    name: &[u8],
+    bytes: &mut [u8],
+) -> Result<usize, Error>
+    ensures { IfOk result (λ n. IsPrefixLen n bytes.new) }
+{
+    if text::is_input(name) {
+        return read_all(&mut rt.reader(), bytes);
+    }
+    read_all(&mut open_named(rt, argument, name)?, bytes)
+}
+
 // As much of a file as the buffer has room for, where its name is the argument of this number; the name - is standard input. Where it cannot be read, a
-// line on standard error says why.
+// line on standard error says why. The number stands beside the name, and not in its place: what is told of a file is told by its name.
 pub fn read_file<'a, R: Files + Input>(
     rt: &R,
     argument: usize,
@@ -67,12 +62,11 @@ pub fn read_file<'a, R: Files + Input>(
 ) -> Result<&'a [u8], Unreadable>
     ensures { IfOk result (λ read. IsPrefixLen (length read.now) bytes.old) }
 {
-    if text::is_input(name) {
-        let mut input = rt.reader();
-        return read_open(&mut input, name, bytes);
-    }
-    match open_named(rt, argument, name) {
-        Ok(mut file) => read_open(&mut file, name, bytes),
-        Err(error) => Err(told_unreadable(name, error)),
+    match read_named(rt, argument, name, bytes) {
+        Ok(count) => Ok(&bytes[..count]),
+        Err(error) => {
+            complain(name, error);
+            Err(Unreadable)
+        }
     }
 }

@@ -61,7 +61,8 @@ impl<'a> Told<'a> {
         text::fresh_line(size.pages, size.slots, size.mode, Answer::Accepted)
     }
 
-    // The set-up, the actions made, the refusal and the receipt.
+    // The set-up, the actions made, the refusal and the receipt. Here and below it is & and no &&: a line after one that could not be written is tried
+    // all the same.
     fn text(&self) -> bool {
         let mut good = text::trace_heading(self.name);
         if self.covers.has_ring() {
