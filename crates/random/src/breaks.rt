@@ -1,237 +1,217 @@
-// A random state out of shape: one in shape with one thing broken, by number. N and S are those that the state was drawn with.
-ghost use Rattle.std.specs.Prelude.{◌≤◌};
-
-use crate::draws::{below, excess, no_page, over, page};
-use crate::writers::{PhaseDraw, reader_phase, writer_phase};
+// A random state out of shape: one in shape with one thing broken.
+use crate::draws::{Generator, Setup};
+use crate::writers::{reader_phase, seen_phase};
 use ring::{PageNo, Ring};
-use rules::state::{Counts, Places, Reader, Size, Writer, WriterPhase};
-use std::num::{wrapping_add_u64, wrapping_sub_u64};
+use rules::state::{Reader, WriterPhase};
 
-// 1, 2, 4 and 5.
-fn break_size(s: &mut u32, kind: u32, mut size: Size) -> Size {
-    match kind {
-        1 => size.pages = below(s, 2),
-        2 => size.pages = over(s, 17),
-        4 => size.slots = over(s, 17),
-        _ => size.mode = over(s, 2),
-    }
-    size
+// What is broken. The breaks are numbered from 1, in the order of `Break::ALL`.
+#[derive(Clone, Copy)]
+pub(crate) enum Break {
+    // the set-up
+    FewPages,
+    ManyPages,
+    NoSlots,
+    ManySlots,
+    Mode,
+    // the places
+    ReaderPage,
+    Tail,
+    Commit,
+    Index,
+    Position,
+    // a page's word or its used
+    NextPage,
+    BothFlags,
+    Used,
+    // the stack: its depth, the tail page and the page after it that a writer saw, the page and the slot that one holds
+    Depth,
+    TailSeen,
+    NextSeen,
+    HeldPage,
+    HeldSlot,
+    // the two pages that the reader found
+    HeaderPage,
+    HeaderNext,
+    // a count past its limit
+    Begun,
+    Taken,
+    Committed,
+    Handed,
+    Overwritten,
+    Dropped,
+    // counts that do not agree; in the last two their sum is past 64 bits
+    HandedOver,
+    CommittedOver,
+    DroppedOver,
+    HandedMost,
+    TakenMost,
 }
 
-// Nothing reserved on pages 0 to n.
-fn empty_pages(n: u32, used: &mut [u32; 17])
-    requires { n ≤ 16 }
-{
-    let mut p: u32 = 0;
-    while p <= n {
-        let at = p as usize;
-        used[at] = 0;
-        p = p + 1;
-    }
+impl Break {
+    pub(crate) const ALL: [Break; 31] = [
+        Break::FewPages,
+        Break::ManyPages,
+        Break::NoSlots,
+        Break::ManySlots,
+        Break::Mode,
+        Break::ReaderPage,
+        Break::Tail,
+        Break::Commit,
+        Break::Index,
+        Break::Position,
+        Break::NextPage,
+        Break::BothFlags,
+        Break::Used,
+        Break::Depth,
+        Break::TailSeen,
+        Break::NextSeen,
+        Break::HeldPage,
+        Break::HeldSlot,
+        Break::HeaderPage,
+        Break::HeaderNext,
+        Break::Begun,
+        Break::Taken,
+        Break::Committed,
+        Break::Handed,
+        Break::Overwritten,
+        Break::Dropped,
+        Break::HandedOver,
+        Break::CommittedOver,
+        Break::DroppedOver,
+        Break::HandedMost,
+        Break::TakenMost,
+    ];
 }
 
-// 3: no slots. What the slots bound is 0 too, and no writer is left to hold one, so that nothing else is out of shape.
-fn without_slots(n: u32, mut ring: Ring) -> Ring
-    requires { n ≤ 16 }
-{
+// No slots. What the slots bound is 0 too, and no writer is left to hold one, so that nothing else is out of shape.
+fn without_slots(setup: Setup, ring: &mut Ring) {
     ring.size.slots = 0;
-    empty_pages(n, &mut ring.used);
+    ring.used[..=setup.size.pages as usize].fill(0);
     ring.places.index = 0;
     ring.places.position = 0;
     ring.depth = 0;
-    ring
 }
 
-fn missing_page(s: &mut u32, n: u32) -> PageNo
-    requires { n ≤ 16 }
-{
-    PageNo(no_page(s, n))
-}
-
-// 6 to 10.
-fn break_places(s: &mut u32, kind: u32, n: u32, slots: u32, mut places: Places) -> Places
-    requires { (n ≤ 16) × (slots ≤ 16) }
-{
-    match kind {
-        6 => places.reader = missing_page(s, n),
-        7 => places.tail = missing_page(s, n),
-        8 => places.commit = missing_page(s, n),
-        9 => places.index = over(s, slots + 1),
-        _ => places.position = over(s, slots + 1),
-    }
-    places
+fn break_word(s: &mut Generator, setup: Setup, ring: &mut Ring) {
+    let at = s.page(setup).0 as usize;
+    ring.words[at] = 4 * s.no_page(setup).0 + s.below(3);
 }
 
 // A word with its page kept and both flags set.
-fn with_both_flags(w: u32) -> u32 {
-    w | Ring::BOTH_FLAGS
+fn set_both_flags(s: &mut Generator, setup: Setup, ring: &mut Ring) {
+    let at = s.page(setup).0 as usize;
+    ring.words[at] |= Ring::BOTH_FLAGS;
 }
 
-// 11 to 13.
-fn break_page(s: &mut u32, kind: u32, n: u32, slots: u32, mut ring: Ring) -> Ring
-    requires { (n ≤ 16) × (slots ≤ 16) }
-{
-    let at = page(s, n) as usize;
-    match kind {
-        11 => {
-            let next = no_page(s, n);
-            ring.words[at] = 4 * next + below(s, 3);
-        }
-        12 => {
-            let w = ring.words[at];
-            ring.words[at] = with_both_flags(w);
-        }
-        _ => ring.used[at] = over(s, slots + 1),
-    }
-    ring
+fn break_used(s: &mut Generator, setup: Setup, ring: &mut Ring) {
+    let at = s.page(setup).0 as usize;
+    ring.used[at] = s.over(setup.size.slots + 1);
 }
 
-// A page; a number over every page's where the page is what is broken.
-fn page_unless(s: &mut u32, n: u32, is_broken: bool) -> u32
-    requires { n ≤ 16 }
-{
-    if is_broken { no_page(s, n) } else { page(s, n) }
-}
-
-// 15 and 16: a tail or a page after it that is no page.
-fn broken_tail(s: &mut u32, kind: u32, n: u32) -> WriterPhase
-    requires { n ≤ 16 }
-{
-    let code = 1 + below(s, 4);
-    let first = page_unless(s, n, kind == 15);
-    let second = page_unless(s, n, kind == 16);
-    writer_phase(PhaseDraw {
-        code,
-        first,
-        second,
-        own: false,
-    })
-}
-
-// 17 and 18: a held page that is none, or a slot that is none.
-fn broken_held(s: &mut u32, kind: u32, n: u32, slots: u32) -> WriterPhase
-    requires { (n ≤ 16) × (1 ≤ slots) × (slots ≤ 16) }
-{
-    let p = page_unless(s, n, kind == 17);
-    let slot = if kind == 17 {
-        below(s, slots)
+// Two pages of which the first, or else the second, is none.
+fn broken_pages(s: &mut Generator, setup: Setup, is_first: bool) -> (PageNo, PageNo) {
+    if is_first {
+        (s.no_page(setup), s.page(setup))
     } else {
-        over(s, slots)
-    };
-    WriterPhase::Held(PageNo(p), slot)
-}
-
-// Every writer with its value, still to be given a place.
-fn all_wanting(mut ring: Ring) -> Ring {
-    let mut i: usize = 0;
-    while i < 4 {
-        let w = ring.stack[i];
-        ring.stack[i] = Writer {
-            value: w.value,
-            phase: WriterPhase::Want,
-        };
-        i = i + 1;
+        (s.page(setup), s.no_page(setup))
     }
-    ring
 }
 
-// 14 to 18. A record drawn at or above the old depth may hold any number, and the new depth may let it in: so every record is set to want first.
-fn break_stack(s: &mut u32, kind: u32, n: u32, slots: u32, mut ring: Ring) -> Ring
-    requires { (n ≤ 16) × (1 ≤ slots) × (slots ≤ 16) }
+// A tail page or a page after it that is none.
+fn broken_seen(s: &mut Generator, setup: Setup, is_tail: bool) -> WriterPhase {
+    let code = 1 + s.below(4);
+    let (t, n) = broken_pages(s, setup, is_tail);
+    seen_phase(code, t, n, false)
+}
+
+// A held page that is none, or a slot that is none.
+fn broken_held(s: &mut Generator, setup: Setup, is_page: bool) -> WriterPhase {
+    let slots = setup.size.slots;
+    if is_page {
+        WriterPhase::Held(s.no_page(setup), s.below(slots))
+    } else {
+        WriterPhase::Held(s.page(setup), s.over(slots))
+    }
+}
+
+// Every writer with its value, still to be given a place. A record drawn at or above the old depth may hold any number, and the new depth may let it in.
+fn all_wanting(ring: &mut Ring) {
+    for w in ring.stack.iter_mut() {
+        w.phase = WriterPhase::Want;
+    }
+}
+
+fn break_depth(s: &mut Generator, ring: &mut Ring) {
+    all_wanting(ring);
+    ring.depth = s.over(5);
+}
+
+// One writer with a phase that is out of shape, the others wanting.
+fn break_writer<F: FnOnce(&mut Generator) -> WriterPhase>(
+    s: &mut Generator,
+    ring: &mut Ring,
+    broken: F,
+)
+    requires { F.IsAlwaysCallable broken }
 {
-    ring = all_wanting(ring);
-    if kind == 14 {
-        ring.depth = over(s, 5);
-        return ring;
-    }
-    let depth = 1 + below(s, 4);
+    all_wanting(ring);
+    let depth = 1 + s.below(4);
     ring.depth = depth;
-    let at = below(s, depth) as usize;
-    let phase = if kind <= 16 {
-        broken_tail(s, kind, n)
-    } else {
-        broken_held(s, kind, n, slots)
-    };
-    let w = ring.stack[at];
-    ring.stack[at] = Writer {
-        value: w.value,
-        phase,
-    };
-    ring
+    let at = s.below(depth) as usize;
+    ring.stack[at].phase = broken(s);
 }
 
-// 19 and 20.
-fn broken_reader(s: &mut u32, kind: u32, n: u32) -> Reader
-    requires { n ≤ 16 }
-{
-    let code = 1 + below(s, 2);
-    let p = page_unless(s, n, kind == 19);
-    let h = page_unless(s, n, kind == 20);
-    let phase = reader_phase(code, p, h);
+fn broken_reader(s: &mut Generator, setup: Setup, is_header: bool) -> Reader {
+    let is_ready = s.below(2) == 1;
+    let (p, h) = broken_pages(s, setup, is_header);
+    let phase = reader_phase(is_ready, p, h);
     Reader { phase }
 }
 
 // A count past its limit.
-fn no_count(s: &mut u32) -> u64 {
-    4294967296 + (excess(s) as u64)
+fn no_count(s: &mut Generator) -> u64 {
+    Ring::MOST_COUNT + 1 + u64::from(s.excess())
 }
 
-// 21 to 26: a count past its limit.
-fn break_count(s: &mut u32, kind: u32, mut c: Counts) -> Counts {
-    match kind {
-        21 => c.begun = no_count(s),
-        22 => c.taken = no_count(s),
-        23 => c.committed = no_count(s),
-        24 => c.handed = no_count(s),
-        25 => c.overwritten = no_count(s),
-        _ => c.dropped = no_count(s),
-    }
-    c
+// One more than what is left of a whole without a part.
+fn over_rest(whole: u64, part: u64) -> u64 {
+    whole.wrapping_sub(part).wrapping_add(1)
 }
 
-// 27 to 31: counts that do not agree; in 30 and 31 their sum is past 64 bits.
-fn break_sums(kind: u32, mut c: Counts) -> Counts {
+pub(crate) fn break_ring(s: &mut Generator, setup: Setup, kind: Break, ring: &mut Ring) {
+    let slots = setup.size.slots;
+    let c = ring.counts;
     match kind {
-        27 => c.handed = wrapping_add_u64(wrapping_sub_u64(c.committed, c.overwritten), 1),
-        28 => c.committed = wrapping_add_u64(c.taken, 1),
-        29 => c.dropped = wrapping_add_u64(wrapping_sub_u64(c.begun, c.taken), 1),
-        30 => {
-            c.handed = u64::MAX;
-            c.overwritten = 1;
-        }
-        _ => {
-            c.taken = u64::MAX;
-            c.dropped = 1;
-        }
+        Break::FewPages => ring.size.pages = s.below(2),
+        Break::ManyPages => ring.size.pages = s.over(17),
+        Break::NoSlots => without_slots(setup, ring),
+        Break::ManySlots => ring.size.slots = s.over(17),
+        Break::Mode => ring.size.mode = s.over(2),
+        Break::ReaderPage => ring.places.reader = s.no_page(setup),
+        Break::Tail => ring.places.tail = s.no_page(setup),
+        Break::Commit => ring.places.commit = s.no_page(setup),
+        Break::Index => ring.places.index = s.over(slots + 1),
+        Break::Position => ring.places.position = s.over(slots + 1),
+        Break::NextPage => break_word(s, setup, ring),
+        Break::BothFlags => set_both_flags(s, setup, ring),
+        Break::Used => break_used(s, setup, ring),
+        Break::Depth => break_depth(s, ring),
+        Break::TailSeen => break_writer(s, ring, |s| broken_seen(s, setup, true)),
+        Break::NextSeen => break_writer(s, ring, |s| broken_seen(s, setup, false)),
+        Break::HeldPage => break_writer(s, ring, |s| broken_held(s, setup, true)),
+        Break::HeldSlot => break_writer(s, ring, |s| broken_held(s, setup, false)),
+        Break::HeaderPage => ring.reader = broken_reader(s, setup, true),
+        Break::HeaderNext => ring.reader = broken_reader(s, setup, false),
+        Break::Begun => ring.counts.begun = no_count(s),
+        Break::Taken => ring.counts.taken = no_count(s),
+        Break::Committed => ring.counts.committed = no_count(s),
+        Break::Handed => ring.counts.handed = no_count(s),
+        Break::Overwritten => ring.counts.overwritten = no_count(s),
+        Break::Dropped => ring.counts.dropped = no_count(s),
+        Break::HandedOver => ring.counts.handed = over_rest(c.committed, c.overwritten),
+        Break::CommittedOver => ring.counts.committed = over_rest(c.taken, 0),
+        Break::DroppedOver => ring.counts.dropped = over_rest(c.begun, c.taken),
+        Break::HandedMost => (ring.counts.handed, ring.counts.overwritten) = (u64::MAX, 1),
+        Break::TakenMost => (ring.counts.taken, ring.counts.dropped) = (u64::MAX, 1),
     }
-    c
-}
-
-// Which part of the ring a break is of.
-pub(crate) fn break_ring(s: &mut u32, kind: u32, n: u32, slots: u32, mut ring: Ring) -> Ring
-    requires { (n ≤ 16) × (1 ≤ slots) × (slots ≤ 16) }
-{
-    match kind {
-        1 | 2 | 4 | 5 => {
-            let size = ring.size;
-            ring.size = break_size(s, kind, size);
-        }
-        3 => ring = without_slots(n, ring),
-        6..=10 => {
-            let places = ring.places;
-            ring.places = break_places(s, kind, n, slots, places);
-        }
-        11..=13 => ring = break_page(s, kind, n, slots, ring),
-        14..=18 => ring = break_stack(s, kind, n, slots, ring),
-        19..=20 => ring.reader = broken_reader(s, kind, n),
-        21..=26 => {
-            let counts = ring.counts;
-            ring.counts = break_count(s, kind, counts);
-        }
-        _ => {
-            let counts = ring.counts;
-            ring.counts = break_sums(kind, counts);
-        }
-    }
-    ring
 }

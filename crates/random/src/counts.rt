@@ -1,15 +1,15 @@
 // The counts of a random state: small ones, and three kinds near the limit.
-use crate::draws::below;
+use crate::draws::Generator;
 use ring::Ring;
 use rules::state::Counts;
 
-fn small(s: &mut u32) -> Counts {
-    let handed = below(s, 100) as u64;
-    let overwritten = below(s, 100) as u64;
-    let committed = handed + overwritten + (below(s, 100) as u64);
-    let taken = committed + (below(s, 100) as u64);
-    let dropped = below(s, 100) as u64;
-    let begun = taken + dropped + (below(s, 100) as u64);
+fn small(s: &mut Generator) -> Counts {
+    let handed = u64::from(s.below(100));
+    let overwritten = u64::from(s.below(100));
+    let committed = handed + overwritten + u64::from(s.below(100));
+    let taken = committed + u64::from(s.below(100));
+    let dropped = u64::from(s.below(100));
+    let begun = taken + dropped + u64::from(s.below(100));
     Counts {
         begun,
         taken,
@@ -20,12 +20,12 @@ fn small(s: &mut u32) -> Counts {
     }
 }
 
-fn near_the_limit(s: &mut u32) -> Counts {
-    let dropped = below(s, 3) as u64;
-    let taken = Ring::MOST_COUNT - dropped - (below(s, 3) as u64);
-    let committed = taken - (below(s, 3) as u64);
-    let overwritten = below(s, 3) as u64;
-    let handed = committed - overwritten - (below(s, 3) as u64);
+fn near_the_limit(s: &mut Generator) -> Counts {
+    let dropped = u64::from(s.below(3));
+    let taken = Ring::MOST_COUNT - dropped - u64::from(s.below(3));
+    let committed = taken - u64::from(s.below(3));
+    let overwritten = u64::from(s.below(3));
+    let handed = committed - overwritten - u64::from(s.below(3));
     Counts {
         begun: Ring::MOST_COUNT,
         taken,
@@ -47,8 +47,8 @@ fn all_dropped() -> Counts {
     }
 }
 
-fn all_committed(s: &mut u32) -> Counts {
-    let left = below(s, 3) as u64;
+fn all_committed(s: &mut Generator) -> Counts {
+    let left = u64::from(s.below(3));
     Counts {
         begun: Ring::MOST_COUNT,
         taken: Ring::MOST_COUNT,
@@ -59,8 +59,8 @@ fn all_committed(s: &mut u32) -> Counts {
     }
 }
 
-pub(crate) fn draw_counts(s: &mut u32) -> Counts {
-    match below(s, 4) {
+pub(crate) fn draw_counts(s: &mut Generator) -> Counts {
+    match s.below(4) {
         0 => small(s),
         1 => near_the_limit(s),
         2 => all_dropped(),

@@ -1,101 +1,111 @@
 // Groups of random states, and what each of the three actions makes of a state.
-ghost use Rattle.std.specs.Prelude.{◌+◌, ◌<◌, ◌≤◌};
+ghost use Rattle.std.specs.Prelude.{◌+◌, ◌≤◌};
 
-use crate::breaks::break_ring;
-use crate::digest::{fold_made, fold_receipt};
-use crate::draws::{any, generator};
-use crate::states::{draw_ring, draw_size};
+use crate::breaks::{Break, break_ring};
+use crate::digest::Digest;
+use crate::draws::Generator;
+use crate::states::draw_ring;
 use ring::{Action, Ring};
 use text::Tally;
 
-pub(crate) const SHAPE_GROUPS: u32 = 10;
+const SHAPE_GROUPS: u32 = 10;
 
-pub(crate) const IN_SHAPE: u32 = 4000;
-
-pub(crate) const BREAKS: u32 = 31;
+const IN_SHAPE: u32 = 4000;
 
 const OUT_OF_SHAPE: u32 = 1000;
 
 // The seed of the first state.
 const FIRST_SEED: u32 = 1000000;
 
-// An action on a state: the answer, the ring and its receipt folded in.
-fn fold_action(h: u32, ring: Ring, action: Action, tally: &mut Tally) -> u32 {
-    let made = ring.act(action);
-    let d = fold_made(h, made, tally);
-    let after = made.ring;
-    fold_receipt(d, after.receipt())
-}
-
-// A state, in shape where `kind` is 0 and else with that break.
-pub(crate) fn draw_state(s: &mut u32, kind: u32) -> Ring {
-    let size = draw_size(s);
-    let ring = draw_ring(s, size);
-    if kind == 0 {
-        return ring;
+// A state, in shape where nothing is broken.
+fn draw_state(s: &mut Generator, broken: Option<Break>) -> Ring {
+    let setup = s.setup();
+    let mut ring = draw_ring(s, setup);
+    if let Some(kind) = broken {
+        break_ring(s, setup, kind, &mut ring);
     }
-    break_ring(s, kind, size.pages, size.slots, ring)
-}
-
-// A state's receipt, and then each action on the state itself.
-fn run_state(number: u32, kind: u32, h: u32, tally: &mut Tally) -> u32
-    requires { number < 71000 }
-{
-    let mut s = generator(FIRST_SEED + number);
-    let ring = draw_state(&mut s, kind);
-    let value = any(&mut s);
-    let mut d = fold_receipt(h, ring.receipt());
-    d = fold_action(d, ring, Action::Begin(value), tally);
-    d = fold_action(d, ring, Action::Write, tally);
-    fold_action(d, ring, Action::Read, tally)
+    ring
 }
 
 // The digest of a group's states.
-fn run_group(first: u32, states: u32, kind: u32, tally: &mut Tally) -> u32
-    requires { first + states ≤ 71000 }
+fn run_group<F: FnMut(Digest, Generator, Ring) -> Digest>(
+    first_seed: u32,
+    states: u32,
+    broken: Option<Break>,
+    mut run: F,
+) -> Digest
+    requires bounds { first_seed + states ≤ 4000000 }
+    requires callable { F.IsAlwaysCallable run }
 {
-    let mut h: u32 = 0;
-    let mut i: u32 = 0;
-    while i < states {
-        h = run_state(first + i, kind, h, tally);
-        i = i + 1;
+    let mut h = Digest::EMPTY;
+    for seed in first_seed..first_seed + states {
+        let mut s = Generator::new(seed);
+        let ring = draw_state(&mut s, broken);
+        h = run(h, s, ring);
     }
     h
 }
 
-// Group 0 is the first.
-pub(crate) fn in_shape_line(group: u32, digest: u32) {
-    text::digest_line(b"in shape ", 1 + (group as u64), b"", digest);
-}
-
-fn in_shape(tally: &mut Tally) {
-    let mut group: u32 = 0;
-    while group < SHAPE_GROUPS {
-        let digest = run_group(group * IN_SHAPE, IN_SHAPE, 0, tally);
-        in_shape_line(group, digest);
-        group = group + 1;
+fn in_shape<F: FnMut(Digest, Generator, Ring) -> Digest>(first_seed: u32, mut run: F)
+    requires bounds { first_seed ≤ 3000000 }
+    requires callable { (state : F) (h : _) (s : _) (ring : _) → F.pre state h s ring }
+{
+    for group in 0..SHAPE_GROUPS {
+        let digest = run_group(first_seed + group * IN_SHAPE, IN_SHAPE, None, &mut run);
+        text::digest_line(b"in shape ", 1 + u64::from(group), b"", digest.number());
     }
 }
 
-pub(crate) fn break_line(kind: u32, digest: u32) {
-    text::digest_line(b"break ", kind as u64, b"", digest);
+fn out_of_shape<F: FnMut(Digest, Generator, Ring) -> Digest>(
+    first_seed: u32,
+    states: u32,
+    mut run: F,
+)
+    requires bounds { (first_seed ≤ 3040000) × (states ≤ 1000) }
+    requires callable { (state : F) (h : _) (s : _) (ring : _) → F.pre state h s ring }
+{
+    for (i, kind) in Break::ALL.iter().enumerate() {
+        let first = first_seed + (i as u32) * states;
+        let digest = run_group(first, states, Some(*kind), &mut run);
+        text::digest_line(b"break ", 1 + (i as u64), b"", digest.number());
+    }
 }
 
-fn out_of_shape(tally: &mut Tally) {
-    let mut kind: u32 = 1;
-    while kind <= BREAKS {
-        let first = SHAPE_GROUPS * IN_SHAPE + (kind - 1) * OUT_OF_SHAPE;
-        let digest = run_group(first, OUT_OF_SHAPE, kind, tally);
-        break_line(kind, digest);
-        kind = kind + 1;
-    }
+// A line for each group of states in shape, and one for the states of each break, with the digest of what `run` makes of them.
+pub(crate) fn run_groups<F: FnMut(Digest, Generator, Ring) -> Digest>(
+    first_seed: u32,
+    of_break: u32,
+    mut run: F,
+)
+    requires bounds { (first_seed ≤ 3000000) × (of_break ≤ 1000) }
+    requires callable { (state : F) (h : _) (s : _) (ring : _) → F.pre state h s ring }
+{
+    in_shape(first_seed, &mut run);
+    out_of_shape(first_seed + SHAPE_GROUPS * IN_SHAPE, of_break, run);
+}
+
+// An action on a state: the answer, the ring and its receipt folded in.
+fn fold_action(h: Digest, ring: Ring, action: Action, tally: &mut Tally) -> Digest {
+    let made = ring.act(action);
+    h.made(&made, tally).receipt(made.ring.receipt())
+}
+
+// A state's receipt, and then each action on the state itself.
+fn run_state(h: Digest, mut s: Generator, ring: Ring, tally: &mut Tally) -> Digest {
+    let mut d = h.receipt(ring.receipt());
+    d = fold_action(d, ring, Action::Begin(s.any()), tally);
+    d = fold_action(d, ring, Action::Write, tally);
+    fold_action(d, ring, Action::Read, tally)
 }
 
 pub(crate) fn run() {
     let mut tally = text::no_answers();
     text::section(b"Random states: each of the three actions on 71000 states");
-    in_shape(&mut tally);
-    out_of_shape(&mut tally);
+    run_groups(
+        FIRST_SEED,
+        OUT_OF_SHAPE,
+        |h, s, ring| run_state(h, s, ring, &mut tally),
+    );
     text::section(b"Answers to the states");
     text::tally(&tally);
 }

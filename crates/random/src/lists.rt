@@ -1,9 +1,9 @@
 // Random lists of actions, each from a fresh ring.
-ghost use Rattle.std.specs.Prelude.{◌<◌};
+ghost use Rattle.std.specs.Prelude.{◌+◌, ◌*◌, ◌<◌, ◌≤◌};
 
-use crate::digest::{fold_made, fold_receipt};
-use crate::draws::{any, below, generator};
-use ring::{Action, Ring};
+use crate::digest::Digest;
+use crate::draws::Generator;
+use ring::{Action, Ring, Step};
 use text::Tally;
 
 const ACTIONS: u32 = 500;
@@ -11,11 +11,76 @@ const ACTIONS: u32 = 500;
 // Lists of one set-up.
 const LISTS: u32 = 42;
 
-// Lists of one N and one mode: 16 set-ups.
-const GROUP: u32 = 672;
+// The seed of the first list.
+const FIRST_SEED: u32 = 1;
 
-// N from 2 to 16, in two modes.
-pub(crate) const GROUPS: u32 = 30;
+// A group has one N and one mode: N from 2 to 16, in two modes.
+const GROUPS: u32 = 30;
+
+// Set-ups of a group: S from 1 to 16.
+const SETUPS: u32 = 16;
+
+// A list before its first action. Its generator and its set-up depend on its number.
+#[derive(Drop)]
+pub(crate) struct List {
+    number: u32,
+    pub(crate) s: Generator,
+    pub(crate) made: Step,
+}
+
+fn make_list(number: u32, first_seed: u32, of_setup: u32) -> List
+    requires { (number < 20160) × (first_seed ≤ 2000000) × (0 < of_setup) }
+{
+    let setup = number / of_setup;
+    List {
+        number,
+        s: Generator::new(first_seed + number),
+        made: Ring::fresh(2 + setup / 32, 1 + setup % 16, (setup / 16) % 2),
+    }
+}
+
+// The digest of a group's lists.
+fn run_group<F: FnMut(Digest, List) -> Digest>(
+    group: u32,
+    first_seed: u32,
+    of_setup: u32,
+    mut run: F,
+) -> Digest
+    requires bounds { (group < 30) × (first_seed ≤ 2000000) × (0 < of_setup) × (of_setup ≤ 42) }
+    requires callable { F.IsAlwaysCallable run }
+{
+    let lists = SETUPS * of_setup;
+    let first = lists * group;
+    let mut h = Digest::EMPTY;
+    for number in first..first + lists {
+        h = run(h, make_list(number, first_seed, of_setup));
+    }
+    h
+}
+
+fn group_line(group: u32, digest: Digest) {
+    let n = 2 + u64::from(group / 2);
+    let mode: &[u8] = if group % 2 == 0 {
+        b", overwrite"
+    } else {
+        b", stop"
+    };
+    text::digest_line(b"N = ", n, mode, digest.number());
+}
+
+// A line for each group, with the digest of what `run` makes of its lists, of which there are so many of each set-up.
+pub(crate) fn run_groups<F: FnMut(Digest, List) -> Digest>(
+    first_seed: u32,
+    of_setup: u32,
+    mut run: F,
+)
+    requires bounds { (first_seed ≤ 2000000) × (0 < of_setup) × (of_setup ≤ 42) }
+    requires callable { (state : F) (h : _) (list : _) → F.pre state h list }
+{
+    for group in 0..GROUPS {
+        group_line(group, run_group(group, first_seed, of_setup, &mut run));
+    }
+}
 
 // Of a hundred actions: below which draw a Begin is made, and below which a Write.
 #[derive(Clone, Copy)]
@@ -41,10 +106,10 @@ fn shares_of(remainder: u32) -> Shares {
     }
 }
 
-fn draw_action(s: &mut u32, shares: Shares) -> Action {
-    let d = below(s, 100);
+fn draw_action(s: &mut Generator, shares: Shares) -> Action {
+    let d = s.below(100);
     if d < shares.begin {
-        return Action::Begin(any(s));
+        return Action::Begin(s.any());
     }
     if d < shares.write {
         return Action::Write;
@@ -52,61 +117,22 @@ fn draw_action(s: &mut u32, shares: Shares) -> Action {
     Action::Read
 }
 
-// A list's generator and the shares of its actions depend on its number. The digest comes back with its answers, rings and receipt folded in.
-fn run_list(number: u32, h: u32, tally: &mut Tally) -> u32
-    requires { number < 20160 }
-{
-    let mut s = generator(number + 1);
-    let shares = shares_of(number % 3);
-    let setup = number / LISTS;
-    let mut made = Ring::fresh(2 + setup / 32, 1 + setup % 16, (setup / 16) % 2);
-    let mut d = fold_made(h, made, tally);
-    let mut left = ACTIONS;
-    while left > 0 {
-        let action = draw_action(&mut s, shares);
-        made = made.ring.act(action);
-        d = fold_made(d, made, tally);
-        left = left - 1;
+// A list, with its answers, rings and receipt folded in.
+fn run_list(h: Digest, mut list: List, tally: &mut Tally) -> Digest {
+    let shares = shares_of(list.number % 3);
+    let mut made = list.made;
+    let mut d = h.made(&made, tally);
+    for _ in 0..ACTIONS {
+        made = made.ring.act(draw_action(&mut list.s, shares));
+        d = d.made(&made, tally);
     }
-    let ring = made.ring;
-    fold_receipt(d, ring.receipt())
-}
-
-// The digest of a group's lists.
-fn run_group(group: u32, tally: &mut Tally) -> u32
-    requires { group < 30 }
-{
-    let mut h: u32 = 0;
-    let mut i: u32 = 0;
-    while i < GROUP {
-        h = run_list(GROUP * group + i, h, tally);
-        i = i + 1;
-    }
-    h
-}
-
-pub(crate) fn group_line(group: u32, digest: u32) {
-    let n = 2 + ((group / 2) as u64);
-    if group % 2 == 0 {
-        text::digest_line(b"N = ", n, b", overwrite", digest);
-    } else {
-        text::digest_line(b"N = ", n, b", stop", digest);
-    }
-}
-
-fn run_groups(tally: &mut Tally) {
-    let mut group: u32 = 0;
-    while group < GROUPS {
-        let digest = run_group(group, tally);
-        group_line(group, digest);
-        group = group + 1;
-    }
+    d.receipt(made.ring.receipt())
 }
 
 pub(crate) fn run() {
     let mut tally = text::no_answers();
     text::heading(b"Random lists: 20160 lists of 500 actions, 42 for each set-up");
-    run_groups(&mut tally);
+    run_groups(FIRST_SEED, LISTS, |h, list| run_list(h, list, &mut tally));
     text::section(b"Answers to the lists");
     text::tally(&tally);
 }

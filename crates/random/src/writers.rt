@@ -1,142 +1,99 @@
 // The stack and the reader of a random state.
-ghost use Rattle.std.specs.Prelude.{◌≤◌};
-
-use crate::draws::{any, below, page};
+use crate::draws::{Generator, Setup};
 use ring::PageNo;
 use ring::words::page_in;
 use rules::state::{Reader, ReaderPhase, Writer, WriterPhase};
+use std::array;
 
-// A phase's code, the two numbers that it holds, and whether the update mark is the writer's own; what a code has no use for is 0 or false.
-#[derive(Clone, Copy)]
-pub struct PhaseDraw {
-    pub code: u32,
-    pub first: u32,
-    pub second: u32,
-    pub own: bool,
-}
-
-pub(crate) fn writer_phase(d: PhaseDraw) -> WriterPhase {
-    let t = PageNo(d.first);
-    let n = PageNo(d.second);
-    let code = d.code;
+// The phase that a number from 1 to 4 stands for, with its tail page and the page after it.
+pub(crate) fn seen_phase(code: u32, t: PageNo, n: PageNo, own: bool) -> WriterPhase {
     match code {
-        0 => WriterPhase::Want,
         1 => WriterPhase::Mark(t, n),
-        2 => WriterPhase::Promote(t, n, d.own),
+        2 => WriterPhase::Promote(t, n, own),
         3 => WriterPhase::Clear(t, n),
-        4 => WriterPhase::Push(t, n),
-        5 => WriterPhase::Held(t, d.second),
-        _ => WriterPhase::Filled,
+        _ => WriterPhase::Push(t, n),
     }
 }
 
-pub(crate) fn reader_phase(code: u32, p: u32, h: u32) -> ReaderPhase {
-    match code {
-        0 => ReaderPhase::Idle,
-        1 => ReaderPhase::Found(PageNo(p), PageNo(h)),
-        _ => ReaderPhase::Ready(PageNo(p), PageNo(h)),
-    }
-}
-
-// The page in p's word every other time, so that words are often found as they were seen; else any page.
-fn next_page(s: &mut u32, n: u32, p: u32, words: &[u32; 17]) -> u32
-    requires { (n ≤ 16) × (p ≤ 16) }
-{
-    if below(s, 2) == 0 {
-        let at = p as usize;
-        let next = page_in(words[at]);
-        next.0
+pub(crate) fn reader_phase(is_ready: bool, p: PageNo, h: PageNo) -> ReaderPhase {
+    if is_ready {
+        ReaderPhase::Ready(p, h)
     } else {
-        page(s, n)
+        ReaderPhase::Found(p, h)
     }
 }
 
-// The numbers of a record below the depth: a tail and a page after it, or a page and a slot.
-fn draw_inside(s: &mut u32, n: u32, slots: u32, code: u32, words: &[u32; 17]) -> PhaseDraw
-    requires { (n ≤ 16) × (1 ≤ slots) }
-{
-    let first = page(s, n);
-    let second = if code == 5 {
-        below(s, slots)
+// A page, and the page in its word every other time, so that words are often found as they were seen; else any page.
+fn two_pages(s: &mut Generator, setup: Setup, words: &[u32; 17]) -> (PageNo, PageNo) {
+    let p = s.page(setup);
+    let next = if s.is_one_in(2) {
+        page_in(words[p.0 as usize])
     } else {
-        next_page(s, n, first, words)
+        s.page(setup)
     };
-    PhaseDraw {
-        code,
-        first,
-        second,
-        own: false,
-    }
+    (p, next)
 }
 
-fn draw_outside(s: &mut u32, code: u32) -> PhaseDraw {
-    let first = any(s);
-    let second = any(s);
-    PhaseDraw {
-        code,
-        first,
-        second,
-        own: false,
-    }
+fn any_two(s: &mut Generator) -> (PageNo, PageNo) {
+    (PageNo(s.any()), PageNo(s.any()))
 }
 
-fn draw_phase(s: &mut u32, n: u32, slots: u32, is_inside: bool, words: &[u32; 17]) -> WriterPhase
-    requires { (n ≤ 16) × (1 ≤ slots) }
-{
-    let code = below(s, 7);
-    if code == 0 {
-        return WriterPhase::Want;
-    }
-    if code == 6 {
-        return WriterPhase::Filled;
-    }
-    let mut d = if is_inside {
-        draw_inside(s, n, slots, code, words)
+// A page and a slot. At or above the depth they are any numbers, as the pages of `draw_seen` are.
+fn draw_held(s: &mut Generator, setup: Setup, is_inside: bool) -> WriterPhase {
+    if is_inside {
+        WriterPhase::Held(s.page(setup), s.below(setup.size.slots))
     } else {
-        draw_outside(s, code)
-    };
-    if code == 2 {
-        d.own = below(s, 2) == 1;
+        WriterPhase::Held(PageNo(s.any()), s.any())
     }
-    writer_phase(d)
+}
+
+// A tail and a page after it.
+fn draw_seen(
+    s: &mut Generator,
+    setup: Setup,
+    code: u32,
+    is_inside: bool,
+    words: &[u32; 17],
+) -> WriterPhase {
+    let (t, n) = if is_inside {
+        two_pages(s, setup, words)
+    } else {
+        any_two(s)
+    };
+    let own = code == 2 && s.below(2) == 1;
+    seen_phase(code, t, n, own)
+}
+
+fn draw_phase(s: &mut Generator, setup: Setup, is_inside: bool, words: &[u32; 17]) -> WriterPhase {
+    match s.below(7) {
+        0 => WriterPhase::Want,
+        5 => draw_held(s, setup, is_inside),
+        6 => WriterPhase::Filled,
+        code => draw_seen(s, setup, code, is_inside, words),
+    }
 }
 
 pub(crate) fn draw_stack(
-    s: &mut u32,
-    n: u32,
-    slots: u32,
+    s: &mut Generator,
+    setup: Setup,
     depth: u32,
     words: &[u32; 17],
-) -> [Writer; 4]
-    requires { (n ≤ 16) × (1 ≤ slots) }
-{
-    let nobody = Writer {
-        value: 0,
-        phase: WriterPhase::Want,
-    };
-    let mut stack = [nobody; 4];
-    let mut i: u32 = 0;
-    while i < 4 {
-        let at = i as usize;
-        let value = any(s);
-        let phase = draw_phase(s, n, slots, i < depth, words);
-        stack[at] = Writer { value, phase };
-        i = i + 1;
-    }
-    stack
+) -> [Writer; 4] {
+    array::from_fn(|i| {
+        let value = s.any();
+        let phase = draw_phase(s, setup, i < depth as usize, words);
+        Writer { value, phase }
+    })
 }
 
-pub(crate) fn draw_reader(s: &mut u32, n: u32, words: &[u32; 17]) -> Reader
-    requires { n ≤ 16 }
-{
-    let code = below(s, 3);
+pub(crate) fn draw_reader(s: &mut Generator, setup: Setup, words: &[u32; 17]) -> Reader {
+    let code = s.below(3);
     if code == 0 {
         return Reader {
             phase: ReaderPhase::Idle,
         };
     }
-    let p = page(s, n);
-    let h = next_page(s, n, p, words);
-    let phase = reader_phase(code, p, h);
+    let (p, h) = two_pages(s, setup, words);
+    let phase = reader_phase(code == 2, p, h);
     Reader { phase }
 }

@@ -1,6 +1,0 @@
--- `digest::fold_stack` is safe and ends. The measure is what is left of the records. Assumes nothing.
-use Rattle.std.proofs.Common.{◌-◌}
-use Rattle.random.proofs.digest.fold_stack.Given as goal
-
-abbrev pub decreases-loop-i : goal.decreases-loop-i
-decreases-loop-i l = 4 - l.i

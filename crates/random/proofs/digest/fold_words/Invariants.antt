@@ -1,6 +1,0 @@
--- `digest::fold_words` is safe and ends. The measure is what is left of the pages. Assumes nothing.
-use Rattle.std.proofs.Common.{◌-◌}
-use Rattle.random.proofs.digest.fold_words.Given as goal
-
-abbrev pub decreases-loop-p : goal.decreases-loop-p
-decreases-loop-p l = 17 - l.p

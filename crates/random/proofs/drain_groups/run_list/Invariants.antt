@@ -1,5 +1,0 @@
--- `drain_groups::run_list` is safe and ends. The measure is the number of turns that are left. Assumes nothing.
-use Rattle.random.proofs.drain_groups.run_list.Given as goal
-
-abbrev pub decreases-loop-left : goal.decreases-loop-left
-decreases-loop-left l = l.left
