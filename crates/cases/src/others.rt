@@ -1,9 +1,8 @@
 // K12: set-ups in and out of range. Then a ring out of shape.
 ghost use Rattle.std.specs.Prelude.{◌≤◌};
 
-use crate::evening::drain_once;
-use crate::steps::{begin, fresh, read, write};
-use ring::{Last, Ring};
+use crate::steps::fresh;
+use ring::{Action, Last, Ring};
 
 fn k12() {
     text::section(b"K12");
@@ -19,9 +18,7 @@ fn drain_line(text: &[u8], ring: Ring, n: usize)
     requires { n ≤ 1 }
 {
     let mut buffer = [0u64; 1];
-    let seen = drain_once(ring, &mut buffer[..n], 0);
-    let last = seen.last;
-    if let Last::Given(answer) = last {
+    if let Last::Given(answer) = ring.drain(&mut buffer[..n]).last {
         text::answer_line(text, answer);
     }
 }
@@ -29,12 +26,11 @@ fn drain_line(text: &[u8], ring: Ring, n: usize)
 // Each action is made on the ring itself, not on what the one before gave back.
 fn out_of_shape() {
     text::section(b"Out of shape: fresh(2, 1, 0) with its read position set to 2");
-    let made = Ring::fresh(2, 1, Ring::OVERWRITE);
-    let mut ring = made.ring;
+    let mut ring = Ring::fresh(2, 1, Ring::OVERWRITE).ring;
     ring.places.position = 2;
-    begin(ring, 70);
-    write(ring);
-    read(ring);
+    for action in [Action::Begin(70), Action::Write, Action::Read] {
+        text::action_line(action, ring.act(action).answer);
+    }
     drain_line(b"drain of 0", ring, 0);
     drain_line(b"drain of 1", ring, 1);
     text::receipt(ring.size, ring.receipt());

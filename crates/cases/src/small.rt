@@ -1,85 +1,79 @@
 // K1 to K8: one ring of two pages.
-use crate::steps::{begin, five_writes, read, show_words, small_ring, three_writes, write};
-use ring::Ring;
+use crate::steps::Shown;
 
-fn k1() -> Ring {
+fn k1() -> Shown {
     text::heading(b"K1");
-    let mut ring = small_ring();
-    show_words(ring);
-    ring = begin(ring, 70);
-    three_writes(ring)
+    let mut shown = Shown::small_ring();
+    shown.words_line();
+    shown.begin(70);
+    shown.writes(3);
+    shown
 }
 
-fn k2(mut ring: Ring) -> Ring {
+fn k2(shown: &mut Shown) {
     text::section(b"K2");
-    ring = begin(ring, 71);
-    ring = five_writes(ring);
-    text::commit_line(ring.places.commit.0, ring.places.index);
-    ring
+    shown.begin(71);
+    shown.writes(5);
+    shown.commit_line();
 }
 
-fn k3(mut ring: Ring) -> Ring {
+fn k3(shown: &mut Shown) {
     text::section(b"K3");
-    ring = begin(ring, 72);
-    ring = write(ring);
-    ring = write(ring);
-    show_words(ring);
-    text::number_line(b"overwritten", ring.counts.overwritten);
-    ring
+    shown.begin(72);
+    shown.writes(2);
+    shown.words_line();
+    text::number_line(b"overwritten", shown.ring.counts.overwritten);
 }
 
-fn k4(ring: Ring) -> Ring {
+fn k4(shown: &mut Shown) {
     text::section(b"K4");
-    read(ring)
+    shown.read();
 }
 
-fn k5(mut ring: Ring) -> Ring {
+fn k5(shown: &mut Shown) {
     text::section(b"K5");
-    ring = write(ring);
-    show_words(ring);
-    ring = write(ring);
-    show_words(ring);
-    ring = write(ring);
-    write(ring)
+    shown.write();
+    shown.words_line();
+    shown.write();
+    shown.words_line();
+    shown.writes(2);
 }
 
-fn k6(mut ring: Ring) -> Ring {
+fn k6(shown: &mut Shown) {
     text::section(b"K6");
-    ring = read(ring);
-    ring = read(ring);
-    show_words(ring);
-    ring = read(ring);
-    show_words(ring);
-    text::number_line(b"reader page", ring.places.reader.0 as u64);
-    ring
+    shown.read();
+    shown.read();
+    shown.words_line();
+    shown.read();
+    shown.words_line();
+    text::number_line(b"reader page", u64::from(shown.ring.places.reader.0));
 }
 
-fn k7(mut ring: Ring) -> Ring {
+fn k7(shown: &mut Shown) {
     text::section(b"K7");
-    ring = read(ring);
-    read(ring)
+    shown.read();
+    shown.read();
 }
 
-fn k8(mut ring: Ring) {
+fn k8(shown: &mut Shown) {
     text::section(b"K8");
-    ring = write(ring);
-    ring = write(ring);
-    ring = read(ring);
-    ring = read(ring);
-    show_words(ring);
-    ring = read(ring);
-    show_words(ring);
-    ring = read(ring);
-    text::receipt(ring.size, ring.receipt());
+    shown.writes(2);
+    shown.read();
+    shown.read();
+    shown.words_line();
+    shown.read();
+    shown.words_line();
+    shown.read();
+    shown.receipt();
 }
 
 pub(crate) fn run() {
-    let mut ring = k1();
-    ring = k2(ring);
-    ring = k3(ring);
-    ring = k4(ring);
-    ring = k5(ring);
-    ring = k6(ring);
-    ring = k7(ring);
-    k8(ring);
+    let mut shown = k1();
+    k2(&mut shown);
+    k3(&mut shown);
+    k4(&mut shown);
+    k5(&mut shown);
+    k6(&mut shown);
+    k7(&mut shown);
+    k8(&mut shown);
 }

@@ -1,48 +1,62 @@
-// An action with its line.
+// A ring whose actions are printed, a line each.
 use ring::{Action, Ring};
-
-// One action and its line; the ring that came back.
-fn step(ring: Ring, action: Action) -> Ring {
-    let made = ring.act(action);
-    let answer = made.answer;
-    text::action_line(action, answer);
-    made.ring
-}
-
-pub(crate) fn begin(ring: Ring, value: u32) -> Ring {
-    step(ring, Action::Begin(value))
-}
-
-pub(crate) fn write(ring: Ring) -> Ring {
-    step(ring, Action::Write)
-}
-
-pub(crate) fn read(ring: Ring) -> Ring {
-    step(ring, Action::Read)
-}
-
-pub(crate) fn three_writes(ring: Ring) -> Ring {
-    write(write(write(ring)))
-}
-
-pub(crate) fn five_writes(ring: Ring) -> Ring {
-    write(write(three_writes(ring)))
-}
 
 // A set-up and its line; the ring that it gives.
 pub(crate) fn fresh(pages: u32, slots: u32, mode: u32) -> Ring {
     let made = Ring::fresh(pages, slots, mode);
-    let answer = made.answer;
-    text::fresh_line(pages, slots, mode, answer);
+    text::fresh_line(pages, slots, mode, made.answer);
     made.ring
 }
 
-// The paper's small ring: two pages of one slot, in overwrite mode.
-pub(crate) fn small_ring() -> Ring {
-    fresh(2, 1, Ring::OVERWRITE)
+// A ring of which each action is printed.
+#[derive(Drop)]
+pub(crate) struct Shown {
+    pub(crate) ring: Ring,
 }
 
-// The words of a ring's pages.
-pub(crate) fn show_words(ring: Ring) {
-    text::words_line(&ring.words, ring.size.pages);
+impl Shown {
+    // The paper's small ring: two pages of one slot, in overwrite mode.
+    pub(crate) fn small_ring() -> Shown {
+        Shown {
+            ring: fresh(2, 1, Ring::OVERWRITE),
+        }
+    }
+
+    // One action and its line.
+    fn step(&mut self, action: Action) {
+        let made = self.ring.act(action);
+        text::action_line(action, made.answer);
+        self.ring = made.ring;
+    }
+
+    pub(crate) fn begin(&mut self, value: u32) {
+        self.step(Action::Begin(value));
+    }
+
+    pub(crate) fn write(&mut self) {
+        self.step(Action::Write);
+    }
+
+    pub(crate) fn writes(&mut self, n: u32) {
+        for _ in 0..n {
+            self.write();
+        }
+    }
+
+    pub(crate) fn read(&mut self) {
+        self.step(Action::Read);
+    }
+
+    // The words of the ring's pages.
+    pub(crate) fn words_line(&self) {
+        text::words_line(&self.ring.words, self.ring.size.pages);
+    }
+
+    pub(crate) fn commit_line(&self) {
+        text::commit_line(self.ring.places.commit.0, self.ring.places.index);
+    }
+
+    pub(crate) fn receipt(&self) {
+        text::receipt(self.ring.size, self.ring.receipt());
+    }
 }
