@@ -13,12 +13,14 @@ pub(crate) const LENT: usize = 64;
 // A proved loop has to end; at most 256 readings wait here, and these drains take one each.
 const MOST_DRAINS: u32 = 1000;
 
+const LENGTHS: [usize; 8] = [0, 1, 2, 3, 5, 8, 13, LENT];
+
 const TWO_32: u64 = 4294967296;
 
 // Whether this is reading j as it is stored: its number j in the upper half, its value 3 * j + 7 in the lower.
 fn is_reading(stored: u64, j: u64) -> bool {
     let value = j.wrapping_mul(3).wrapping_add(7);
-    stored / TWO_32 == j && stored % TWO_32 == value
+    stored == j.wrapping_mul(TWO_32).wrapping_add(value)
 }
 
 // How many of the elements are the readings from `from` on, each in its place.
@@ -42,16 +44,7 @@ pub(crate) fn kept(buffer: &[u64; LENT], count: usize) -> u64 {
 fn length_at(turn: u32) -> usize
     ensures { result ≤ 64 }
 {
-    match turn % 8 {
-        0 => 0,
-        1 => 1,
-        2 => 2,
-        3 => 3,
-        4 => 5,
-        5 => 8,
-        6 => 13,
-        _ => LENT,
-    }
+    LENGTHS[(turn % 8) as usize]
 }
 
 // The ring, and what is seen of all drains so far.

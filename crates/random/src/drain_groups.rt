@@ -2,23 +2,11 @@
 use crate::digest::Digest;
 use crate::drains::{Lasts, drain};
 use crate::draws::Generator;
-use crate::groups;
-use crate::lists::{self, List};
+use crate::groups::States;
+use crate::lists::{List, Lists};
 use ring::{Action, Ring};
 
 const TURNS: u32 = 500;
-
-// Lists of one set-up.
-const LISTS: u32 = 14;
-
-// The seed of the first list.
-const FIRST_LIST: u32 = 2000000;
-
-// States of one break.
-const OUT_OF_SHAPE: u32 = 400;
-
-// The seed of the first state.
-const FIRST_STATE: u32 = 3000000;
 
 // An action: its answer folded in, and the ring that came back.
 fn act(ring: Ring, action: Action, h: &mut Digest) -> Ring {
@@ -49,7 +37,11 @@ fn run_list(mut h: Digest, mut list: List, lasts: &mut Lasts) -> Digest {
 pub(crate) fn run_lists() {
     let mut lasts = Lasts::new();
     text::section(b"Drains of lists: 6720 lists of 500 turns, 14 for each set-up");
-    lists::run_groups(FIRST_LIST, LISTS, |h, list| run_list(h, list, &mut lasts));
+    let lists = Lists {
+        first_seed: 2000000,
+        of_setup: 14,
+    };
+    lists.each_group(|h, list| run_list(h, list, &mut lasts));
     text::section(b"Last answers of the drains of lists");
     lasts.print();
 }
@@ -63,11 +55,11 @@ fn run_state(mut h: Digest, mut s: Generator, ring: Ring, lasts: &mut Lasts) -> 
 pub(crate) fn run_states() {
     let mut lasts = Lasts::new();
     text::section(b"Drains of states: one of each of 52400 states");
-    groups::run_groups(
-        FIRST_STATE,
-        OUT_OF_SHAPE,
-        |h, s, ring| run_state(h, s, ring, &mut lasts),
-    );
+    let states = States {
+        first_seed: 3000000,
+        of_break: 400,
+    };
+    states.each_group(|h, s, ring| run_state(h, s, ring, &mut lasts));
     text::section(b"Last answers of the drains of states");
     lasts.print();
 }

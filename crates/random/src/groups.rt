@@ -12,11 +12,6 @@ const SHAPE_GROUPS: u32 = 10;
 
 const IN_SHAPE: u32 = 4000;
 
-const OUT_OF_SHAPE: u32 = 1000;
-
-// The seed of the first state.
-const FIRST_SEED: u32 = 1000000;
-
 // A state, in shape where nothing is broken.
 fn draw_state(s: &mut Generator, broken: Option<Break>) -> Ring {
     let setup = s.setup();
@@ -27,61 +22,63 @@ fn draw_state(s: &mut Generator, broken: Option<Break>) -> Ring {
     ring
 }
 
-// The digest of a group's states.
+// All states: the seed of the first, and how many there are of each break.
+#[derive(Clone, Copy)]
+pub(crate) struct States {
+    pub(crate) first_seed: u32,
+    pub(crate) of_break: u32,
+    ghost seeds_fit: { first_seed ≤ 3000000 },
+    ghost few: { of_break ≤ 1000 },
+}
+
+impl States {
+    fn in_shape<F: FnMut(Digest, Generator, Ring) -> Digest>(self, mut run: F)
+        requires { (state : F) (h : _) (s : _) (ring : _) → F.pre state h s ring }
+    {
+        for group in 0..SHAPE_GROUPS {
+            let first = self.first_seed + group * IN_SHAPE;
+            let digest = run_group(first, IN_SHAPE, None, &mut run);
+            text::digest_line(b"in shape ", 1 + u64::from(group), b"", digest.number());
+        }
+    }
+
+    fn out_of_shape<F: FnMut(Digest, Generator, Ring) -> Digest>(self, mut run: F)
+        requires { (state : F) (h : _) (s : _) (ring : _) → F.pre state h s ring }
+    {
+        let first = self.first_seed + SHAPE_GROUPS * IN_SHAPE;
+        for (i, kind) in Break::ALL.iter().enumerate() {
+            let seed = first + (i as u32) * self.of_break;
+            let digest = run_group(seed, self.of_break, Some(*kind), &mut run);
+            text::digest_line(b"break ", 1 + (i as u64), b"", digest.number());
+        }
+    }
+
+    // A line for each group of states in shape and one for the states of each break, with the digest of what `run` makes of them.
+    pub(crate) fn each_group<F: FnMut(Digest, Generator, Ring) -> Digest>(self, mut run: F)
+        requires { (state : F) (h : _) (s : _) (ring : _) → F.pre state h s ring }
+    {
+        self.in_shape(&mut run);
+        self.out_of_shape(run);
+    }
+}
+
+// The digest of so many states, from a seed on.
 fn run_group<F: FnMut(Digest, Generator, Ring) -> Digest>(
-    first_seed: u32,
+    first: u32,
     states: u32,
     broken: Option<Break>,
     mut run: F,
 ) -> Digest
-    requires bounds { first_seed + states ≤ 4000000 }
+    requires bounds { first + states ≤ 4000000 }
     requires callable { F.IsAlwaysCallable run }
 {
     let mut h = Digest::EMPTY;
-    for seed in first_seed..first_seed + states {
+    for seed in first..first + states {
         let mut s = Generator::new(seed);
         let ring = draw_state(&mut s, broken);
         h = run(h, s, ring);
     }
     h
-}
-
-fn in_shape<F: FnMut(Digest, Generator, Ring) -> Digest>(first_seed: u32, mut run: F)
-    requires bounds { first_seed ≤ 3000000 }
-    requires callable { (state : F) (h : _) (s : _) (ring : _) → F.pre state h s ring }
-{
-    for group in 0..SHAPE_GROUPS {
-        let digest = run_group(first_seed + group * IN_SHAPE, IN_SHAPE, None, &mut run);
-        text::digest_line(b"in shape ", 1 + u64::from(group), b"", digest.number());
-    }
-}
-
-fn out_of_shape<F: FnMut(Digest, Generator, Ring) -> Digest>(
-    first_seed: u32,
-    states: u32,
-    mut run: F,
-)
-    requires bounds { (first_seed ≤ 3040000) × (states ≤ 1000) }
-    requires callable { (state : F) (h : _) (s : _) (ring : _) → F.pre state h s ring }
-{
-    for (i, kind) in Break::ALL.iter().enumerate() {
-        let first = first_seed + (i as u32) * states;
-        let digest = run_group(first, states, Some(*kind), &mut run);
-        text::digest_line(b"break ", 1 + (i as u64), b"", digest.number());
-    }
-}
-
-// A line for each group of states in shape, and one for the states of each break, with the digest of what `run` makes of them.
-pub(crate) fn run_groups<F: FnMut(Digest, Generator, Ring) -> Digest>(
-    first_seed: u32,
-    of_break: u32,
-    mut run: F,
-)
-    requires bounds { (first_seed ≤ 3000000) × (of_break ≤ 1000) }
-    requires callable { (state : F) (h : _) (s : _) (ring : _) → F.pre state h s ring }
-{
-    in_shape(first_seed, &mut run);
-    out_of_shape(first_seed + SHAPE_GROUPS * IN_SHAPE, of_break, run);
 }
 
 // An action on a state: the answer, the ring and its receipt folded in.
@@ -101,11 +98,11 @@ fn run_state(h: Digest, mut s: Generator, ring: Ring, tally: &mut Tally) -> Dige
 pub(crate) fn run() {
     let mut tally = text::no_answers();
     text::section(b"Random states: each of the three actions on 71000 states");
-    run_groups(
-        FIRST_SEED,
-        OUT_OF_SHAPE,
-        |h, s, ring| run_state(h, s, ring, &mut tally),
-    );
+    let states = States {
+        first_seed: 1000000,
+        of_break: 1000,
+    };
+    states.each_group(|h, s, ring| run_state(h, s, ring, &mut tally));
     text::section(b"Answers to the states");
     text::tally(&tally);
 }

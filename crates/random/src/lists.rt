@@ -1,5 +1,5 @@
 // Random lists of actions, each from a fresh ring.
-ghost use Rattle.std.specs.Prelude.{◌+◌, ◌*◌, ◌<◌, ◌≤◌};
+ghost use Rattle.std.specs.Prelude.{◌<◌, ◌≤◌};
 
 use crate::digest::Digest;
 use crate::draws::Generator;
@@ -7,12 +7,6 @@ use ring::{Action, Ring, Step};
 use text::Tally;
 
 const ACTIONS: u32 = 500;
-
-// Lists of one set-up.
-const LISTS: u32 = 42;
-
-// The seed of the first list.
-const FIRST_SEED: u32 = 1;
 
 // A group has one N and one mode: N from 2 to 16, in two modes.
 const GROUPS: u32 = 30;
@@ -28,34 +22,50 @@ pub(crate) struct List {
     pub(crate) made: Step,
 }
 
-fn make_list(number: u32, first_seed: u32, of_setup: u32) -> List
-    requires { (number < 20160) × (first_seed ≤ 2000000) × (0 < of_setup) }
-{
-    let setup = number / of_setup;
-    List {
-        number,
-        s: Generator::new(first_seed + number),
-        made: Ring::fresh(2 + setup / 32, 1 + setup % 16, (setup / 16) % 2),
-    }
+// All lists: the seed of the first, and how many there are of each set-up.
+#[derive(Clone, Copy)]
+pub(crate) struct Lists {
+    pub(crate) first_seed: u32,
+    pub(crate) of_setup: u32,
+    ghost seeds_fit: { first_seed ≤ 2000000 },
+    ghost some: { 0 < of_setup },
+    ghost few: { of_setup ≤ 42 },
 }
 
-// The digest of a group's lists.
-fn run_group<F: FnMut(Digest, List) -> Digest>(
-    group: u32,
-    first_seed: u32,
-    of_setup: u32,
-    mut run: F,
-) -> Digest
-    requires bounds { (group < 30) × (first_seed ≤ 2000000) × (0 < of_setup) × (of_setup ≤ 42) }
-    requires callable { F.IsAlwaysCallable run }
-{
-    let lists = SETUPS * of_setup;
-    let first = lists * group;
-    let mut h = Digest::EMPTY;
-    for number in first..first + lists {
-        h = run(h, make_list(number, first_seed, of_setup));
+impl Lists {
+    fn list(self, number: u32) -> List
+        requires { number < 20160 }
+    {
+        let setup = number / self.of_setup;
+        List {
+            number,
+            s: Generator::new(self.first_seed + number),
+            made: Ring::fresh(2 + setup / 32, 1 + setup % 16, (setup / 16) % 2),
+        }
     }
-    h
+
+    // The digest of a group's lists.
+    fn group<F: FnMut(Digest, List) -> Digest>(self, group: u32, mut run: F) -> Digest
+        requires group { group < 30 }
+        requires callable { F.IsAlwaysCallable run }
+    {
+        let lists = SETUPS * self.of_setup;
+        let first = lists * group;
+        let mut h = Digest::EMPTY;
+        for number in first..first + lists {
+            h = run(h, self.list(number));
+        }
+        h
+    }
+
+    // A line for each group, with the digest of what `run` makes of its lists.
+    pub(crate) fn each_group<F: FnMut(Digest, List) -> Digest>(self, mut run: F)
+        requires { (state : F) (h : _) (list : _) → F.pre state h list }
+    {
+        for group in 0..GROUPS {
+            group_line(group, self.group(group, &mut run));
+        }
+    }
 }
 
 fn group_line(group: u32, digest: Digest) {
@@ -66,20 +76,6 @@ fn group_line(group: u32, digest: Digest) {
         b", stop"
     };
     text::digest_line(b"N = ", n, mode, digest.number());
-}
-
-// A line for each group, with the digest of what `run` makes of its lists, of which there are so many of each set-up.
-pub(crate) fn run_groups<F: FnMut(Digest, List) -> Digest>(
-    first_seed: u32,
-    of_setup: u32,
-    mut run: F,
-)
-    requires bounds { (first_seed ≤ 2000000) × (0 < of_setup) × (of_setup ≤ 42) }
-    requires callable { (state : F) (h : _) (list : _) → F.pre state h list }
-{
-    for group in 0..GROUPS {
-        group_line(group, run_group(group, first_seed, of_setup, &mut run));
-    }
 }
 
 // Of a hundred actions: below which draw a Begin is made, and below which a Write.
@@ -107,14 +103,11 @@ fn shares_of(remainder: u32) -> Shares {
 }
 
 fn draw_action(s: &mut Generator, shares: Shares) -> Action {
-    let d = s.below(100);
-    if d < shares.begin {
-        return Action::Begin(s.any());
+    match s.below(100) {
+        d if d < shares.begin => Action::Begin(s.any()),
+        d if d < shares.write => Action::Write,
+        _ => Action::Read,
     }
-    if d < shares.write {
-        return Action::Write;
-    }
-    Action::Read
 }
 
 // A list, with its answers, rings and receipt folded in.
@@ -132,7 +125,11 @@ fn run_list(h: Digest, mut list: List, tally: &mut Tally) -> Digest {
 pub(crate) fn run() {
     let mut tally = text::no_answers();
     text::heading(b"Random lists: 20160 lists of 500 actions, 42 for each set-up");
-    run_groups(FIRST_SEED, LISTS, |h, list| run_list(h, list, &mut tally));
+    let lists = Lists {
+        first_seed: 1,
+        of_setup: 42,
+    };
+    lists.each_group(|h, list| run_list(h, list, &mut tally));
     text::section(b"Answers to the lists");
     text::tally(&tally);
 }
