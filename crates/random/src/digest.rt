@@ -5,9 +5,9 @@ use ring::{Answer, Last, Receipt, Ring, Step};
 use rules::state::{Counts, Places, ReaderPhase, Writer, WriterPhase};
 use text::Tally;
 
-const FACTOR: u64 = 1664525;
+const FACTOR: u32 = 1664525;
 
-const TERM: u64 = 1013904223;
+const TERM: u32 = 1013904223;
 
 pub(crate) const TWO_32: u64 = 4294967296;
 
@@ -49,8 +49,12 @@ impl Digest {
     fn fold(self, x: u32) -> Digest
         ensures { result.0 ≡ (1664525 * self.0 + x + 1013904223) % 4294967296 }
     {
-        let sum = FACTOR * u64::from(self.0) + u64::from(x) + TERM;
-        Digest((sum % TWO_32) as u32)
+        Digest(
+            FACTOR
+                .wrapping_mul(self.0)
+                .wrapping_add(x)
+                .wrapping_add(TERM),
+        )
     }
 
     fn numbers<const N: usize>(self, numbers: [u32; N]) -> Digest {
