@@ -2,7 +2,7 @@
 ghost use Rattle.std.specs.Prelude.{◌≤◌};
 
 use crate::many::{Counted, READINGS};
-use ring::{Answer, Last};
+use ring::Answer;
 use text::Tally;
 
 // The buffer's elements before a drain, and how many there are.
@@ -74,10 +74,10 @@ impl Evening {
         }
     }
 
-    fn count_last(&mut self, last: Last) {
+    fn count_last(&mut self, last: Option<Answer>) {
         match last {
-            Last::None => self.none = self.none.wrapping_add(1),
-            Last::Given(answer) => text::count_answer(&mut self.lasts, answer),
+            None => self.none = self.none.wrapping_add(1),
+            Some(answer) => text::count_answer(&mut self.lasts, answer),
         }
     }
 
@@ -97,7 +97,7 @@ impl Evening {
         self.stored = self.stored.wrapping_add(count as u64);
         self.in_order = self.in_order.wrapping_add(ordered);
         self.kept = self.kept.wrapping_add(kept(&buffer, count));
-        matches!(last, Last::Given(Answer::Event(_, _)))
+        matches!(last, Some(Answer::Event(_, _)))
     }
 
     // Reading i, with value 3 * i + 7, and a drain after every fourth one.

@@ -1,6 +1,6 @@
 // 65537 readings in stop mode, each written and then read until Empty. The lines of the actions are not printed.
 use crate::steps::fresh;
-use ring::{Action, Answer, Ring};
+use ring::{Action, Answer, ReadingNo, Ring};
 use text::Tally;
 
 pub(crate) const READINGS: u32 = 65537;
@@ -48,12 +48,12 @@ impl Counted {
     fn read_out(&mut self, i: u32) -> u64 {
         let mut events: u64 = 0;
         for _ in 0..MOST_ACTIONS {
-            match self.act(Action::Read) {
-                Answer::Empty => return events,
-                Answer::Event(number, value) if number.0 == i && value == i => {
-                    events = events.wrapping_add(1);
-                }
-                _ => {}
+            let answer = self.act(Action::Read);
+            if answer == Answer::Empty {
+                return events;
+            }
+            if answer == Answer::Event(ReadingNo(i), i) {
+                events = events.wrapping_add(1);
             }
         }
         events

@@ -2,7 +2,7 @@
 ghost use Rattle.std.specs.Prelude.{◌≤◌};
 
 use crate::steps::fresh;
-use ring::{Action, Last, Ring};
+use ring::{Action, Ring};
 
 fn k12() {
     text::section(b"K12");
@@ -18,7 +18,7 @@ fn drain_line(text: &[u8], ring: Ring, n: usize)
     requires { n ≤ 1 }
 {
     let mut buffer = [0u64; 1];
-    if let Last::Given(answer) = ring.drain(&mut buffer[..n]).last {
+    if let Some(answer) = ring.drain(&mut buffer[..n]).last {
         text::answer_line(text, answer);
     }
 }

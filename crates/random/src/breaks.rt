@@ -2,7 +2,7 @@
 use crate::draws::{Generator, Setup};
 use crate::writers::{reader_phase, seen_phase};
 use ring::{PageNo, Ring};
-use rules::state::{Reader, WriterPhase};
+use rules::state::{ReaderPhase, WriterPhase};
 
 // What is broken. The breaks are numbered from 1, in the order of `Break::ALL`.
 #[derive(Clone, Copy)]
@@ -161,11 +161,10 @@ fn break_writer<F: FnOnce(&mut Generator) -> WriterPhase>(
     ring.stack[at].phase = broken(s);
 }
 
-fn broken_reader(s: &mut Generator, setup: Setup, is_header: bool) -> Reader {
+fn broken_reader(s: &mut Generator, setup: Setup, is_header: bool) -> ReaderPhase {
     let is_ready = s.below(2) == 1;
     let (p, h) = broken_pages(s, setup, is_header);
-    let phase = reader_phase(is_ready, p, h);
-    Reader { phase }
+    reader_phase(is_ready, p, h)
 }
 
 // A count past its limit.

@@ -1,7 +1,7 @@
 // Digests. The slots' four chains run side by side in one loop, since each fold waits for the one before it.
 ghost use Rattle.std.specs.Prelude.{◌≡◌, ◌+◌, ◌*◌, ◌%◌};
 
-use ring::{Answer, Last, Receipt, Ring, Step};
+use ring::{Answer, Receipt, Ring, Step};
 use rules::state::{Counts, Places, ReaderPhase, Writer, WriterPhase};
 use text::Tally;
 
@@ -76,10 +76,10 @@ impl Digest {
     }
 
     // The last answer of a drain.
-    pub(crate) fn last(self, last: Last) -> Digest {
+    pub(crate) fn last(self, last: Option<Answer>) -> Digest {
         match last {
-            Last::None => self.fold(0),
-            Last::Given(answer) => self.fold(1).answer(answer),
+            None => self.fold(0),
+            Some(answer) => self.fold(1).answer(answer),
         }
     }
 
@@ -91,7 +91,7 @@ impl Digest {
     }
 
     pub(crate) fn receipt(self, r: Receipt) -> Digest {
-        self.fold(r.refusal)
+        self.fold(r.refusal.map_or(0, |why| why.number()))
             .count(r.begun)
             .count(r.taken)
             .count(r.handed)
@@ -127,7 +127,7 @@ impl Digest {
             .places(ring.places)
             .counts(ring.counts)
             .fold(ring.depth)
-            .numbers(reader_numbers(ring.reader.phase));
+            .numbers(reader_numbers(ring.reader));
         ring.stack.iter().fold(h, |h, w| h.writer(*w))
     }
 

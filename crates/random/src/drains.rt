@@ -3,7 +3,7 @@ ghost use Rattle.std.specs.Prelude.{◌≤◌};
 
 use crate::digest::{Digest, TWO_32};
 use crate::draws::Generator;
-use ring::{Last, Ring};
+use ring::{Answer, Ring};
 use text::Tally;
 
 // The last answers of many drains.
@@ -23,10 +23,10 @@ impl Lasts {
     }
 
     // One more last answer, or one more drain that has none.
-    fn count(&mut self, last: Last) {
+    fn count(&mut self, last: Option<Answer>) {
         match last {
-            Last::None => self.none = self.none.wrapping_add(1),
-            Last::Given(answer) => text::count_answer(&mut self.tally, answer),
+            None => self.none = self.none.wrapping_add(1),
+            Some(answer) => text::count_answer(&mut self.tally, answer),
         }
     }
 

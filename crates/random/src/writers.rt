@@ -2,7 +2,7 @@
 use crate::draws::{Generator, Setup};
 use ring::PageNo;
 use ring::words::page_in;
-use rules::state::{Reader, ReaderPhase, Writer, WriterPhase};
+use rules::state::{ReaderPhase, Writer, WriterPhase};
 use std::array;
 
 // The phase that a number from 1 to 4 stands for, with its tail page and the page after it.
@@ -86,14 +86,11 @@ pub(crate) fn draw_stack(
     })
 }
 
-pub(crate) fn draw_reader(s: &mut Generator, setup: Setup, words: &[u32; 17]) -> Reader {
+pub(crate) fn draw_reader(s: &mut Generator, setup: Setup, words: &[u32; 17]) -> ReaderPhase {
     let code = s.below(3);
     if code == 0 {
-        return Reader {
-            phase: ReaderPhase::Idle,
-        };
+        return ReaderPhase::Idle;
     }
     let (p, h) = two_pages(s, setup, words);
-    let phase = reader_phase(code == 2, p, h);
-    Reader { phase }
+    reader_phase(code == 2, p, h)
 }
