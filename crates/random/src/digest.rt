@@ -14,7 +14,7 @@ pub(crate) const TWO_32: u64 = 4294967296;
 // How many slots a chain has: half of the room.
 const CHAIN: usize = 136;
 
-// A reader's phase as its code and its two pages.
+// A reader's phase as its code and its two pages. The codes are the digest's own, each beside the numbers that follow it.
 fn reader_numbers(phase: ReaderPhase) -> [u32; 3] {
     match phase {
         ReaderPhase::Idle => [0, 0, 0],
@@ -23,7 +23,7 @@ fn reader_numbers(phase: ReaderPhase) -> [u32; 3] {
     }
 }
 
-// A writer's phase as its code, its pages or its page and slot, and a third number.
+// A writer's phase as its code, its pages or its page and slot, and a third number; its codes are the digest's own too.
 fn writer_numbers(phase: WriterPhase) -> [u32; 4] {
     match phase {
         WriterPhase::Want => [0, 0, 0, 0],

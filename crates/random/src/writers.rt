@@ -5,7 +5,7 @@ use ring::words::page_in;
 use rules::state::{ReaderPhase, Writer, WriterPhase};
 use std::array;
 
-// The phase that a number from 1 to 4 stands for, with its tail page and the page after it.
+// The phase that a drawn number from 1 to 4 stands for, with its tail page and the page after it. A number and no enum: it is a draw's.
 pub(crate) fn seen_phase(code: u32, t: PageNo, n: PageNo, own: bool) -> WriterPhase {
     match code {
         1 => WriterPhase::Mark(t, n),
