@@ -1,11 +1,11 @@
--- One action more of the timed loop, and what it answers at its end.
+-- One action more of the timed loop.
 -- Assumes nothing.
 use mathlib.Core.Path.{◌≡◌, ap, ◌∙◌}
 use Prim.Native.Nat.{ℕ, suc, ◌+◌}
 use native.Mathlib.Omega.{arith}
 use Rattle.rules.specs.Answers.{Outcome}
 use Rattle.ring.specs.Ring.{state_of, outcome}
-use Rattle.bench.specs.Loop.{next_on, looped, handed_after}
+use Rattle.bench.specs.Loop.{next_on, looped}
 use Rattle.ring.specs.declared.state.Step.{Step}
 
 -- where s is the step of the first i actions, what comes next on its ring is that of the first i + 1
@@ -14,7 +14,3 @@ unfolding looped
 looped-next i here next =
     let one : suc i ≡ i + 1 = omega arith in
     next ∙ ap (λ (q : Outcome). next_on q.state i) here ∙ ap looped one
-
--- .. and after all of them the step's handed is what the definition says
-pub handed-at : {s : Step} (i k : ℕ) → outcome s ≡ looped i → i ≡ k → (state_of s.ring).counts.handed ≡ handed_after k
-handed-at i k here done = ap (λ (q : Outcome). q.state.counts.handed) (here ∙ ap looped done)

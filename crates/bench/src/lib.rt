@@ -12,36 +12,35 @@ use ring::{Action, Ring};
 
 // A Write while a writer is at work, then Reads until nothing waits, then a Begin. The actions are made on a ring of 16 pages of 16 slots in stop
 // mode; the answer is how many readings they handed out.
+// A loop and a choice of its own beside `bench_by_act`: one loop for both with a closure that makes the action took 1.7 times as long here, and a
+// `match` on `next_action` 1.4 times, since they copy the ring more often.
 pub fn bench_by_methods(actions: u32) -> u64
     ensures { result ≡ handed_after actions }
 {
     let mut s = Ring::fresh(Ring::MOST_PAGES, Ring::MOST_SLOTS, Ring::STOP);
-    let mut i: u32 = 0;
-    while i < actions {
-        let value = i;
-        i = i + 1;
+    for i in 0..actions {
         if 0 < s.ring.depth {
             s = s.ring.write();
         } else if s.ring.counts.handed < s.ring.counts.committed {
             s = s.ring.read();
         } else {
-            s = s.ring.begin(value);
+            s = s.ring.begin(i);
         }
     }
     s.ring.counts.handed
 }
 
 // The same choice as an action.
-fn next_action(depth: u32, handed: u64, committed: u64, value: u32) -> Action
-    ensures { result ≡ next_action depth handed committed value }
+fn next_action(ring: &Ring, value: u32) -> Action
+    ensures { result ≡ next_action ring.now.depth ring.now.counts.handed ring.now.counts.committed value }
 {
-    if 0 < depth {
-        return Action::Write;
+    if 0 < ring.depth {
+        Action::Write
+    } else if ring.counts.handed < ring.counts.committed {
+        Action::Read
+    } else {
+        Action::Begin(value)
     }
-    if handed < committed {
-        return Action::Read;
-    }
-    Action::Begin(value)
 }
 
 // The same loop by `Ring::act`.
@@ -49,16 +48,8 @@ pub fn bench_by_act(actions: u32) -> u64
     ensures { result ≡ handed_after actions }
 {
     let mut s = Ring::fresh(Ring::MOST_PAGES, Ring::MOST_SLOTS, Ring::STOP);
-    let mut i: u32 = 0;
-    while i < actions {
-        let action = next_action(
-            s.ring.depth,
-            s.ring.counts.handed,
-            s.ring.counts.committed,
-            i,
-        );
-        s = s.ring.act(action);
-        i = i + 1;
+    for i in 0..actions {
+        s = s.ring.act(next_action(&s.ring, i));
     }
     s.ring.counts.handed
 }
@@ -67,8 +58,7 @@ pub fn bench_by_act(actions: u32) -> u64
 pub fn bench_replay(bytes: &[u8], answers: &mut [u64]) -> usize
     ensures { (result ≡ (replayed_from bytes.now first_action answers.old).made) × (answers.new ≡ buffer_from bytes.now first_action answers.old) }
 {
-    let run = trace::replay(bytes, answers);
-    run.made
+    trace::replay(bytes, answers).made
 }
 
 // The ring that a trace leaves, drained `turns` times, or once where that is 0, each time as the trace left it; the answer is how many elements a
@@ -78,13 +68,10 @@ pub fn bench_drain(bytes: &[u8], answers: &mut [u64], buffer: &mut [u64], turns:
     ensures answers_after { answers.new ≡ buffer_from bytes.now first_action answers.old }
     ensures buffer_after { buffer.new ≡ buffer_after (drain_rule (replayed_from bytes.now first_action answers.old).state (length buffer.old)) buffer.old }
 {
-    let run = trace::replay(bytes, answers);
-    let ring = run.ring;
+    let ring = trace::replay(bytes, answers).ring;
     let mut made = ring.drain_into(buffer);
-    let mut i: u32 = 1;
-    while i < turns {
+    for _ in 1..turns {
         made = ring.drain_into(buffer);
-        i = i + 1;
     }
     made.count
 }

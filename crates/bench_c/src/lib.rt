@@ -1,4 +1,5 @@
-// What is timed, for callers in C and Rust: the functions of crate bench under their names, each with its clauses.
+// What is timed, for callers in C and Rust: the functions of crate bench under their names, each with its clauses. Four functions that only call: C
+// calls each by its name.
 #![tactic(auto)]
 
 ghost use Rattle.std.specs.Prelude.{◌≡◌, length};

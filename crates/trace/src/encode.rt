@@ -28,7 +28,7 @@ fn put(out: &mut [u8], at: usize, bytes: &[u8]) -> Result<usize, Refusal>
     Ok(next)
 }
 
-// The header of a trace. Where it is refused, `out` is left as it was.
+// The header of a trace. Where it is refused, `out` is left as it was. Three numbers and no `Size`: a caller passes them as to `Ring::fresh`.
 pub fn put_header(out: &mut [u8], pages: u32, slots: u32, mode: u32) -> Result<usize, Refusal>
     ensures place { put_gives result ≡ put_header_rule (length out.old) pages slots mode }
     ensures bytes { out.new ≡ header_put out.old pages slots mode }
@@ -41,7 +41,8 @@ pub fn put_header(out: &mut [u8], pages: u32, slots: u32, mode: u32) -> Result<u
     put(out, 0, &[b'P', b'T', b'R', low, high, pages, slots, mode])
 }
 
-// An action from `at` on. Where it is refused, `out` is left as it was.
+// An action from `at` on. Where it is refused, `out` is left as it was. The caller keeps the bytes and the place, and no struct of both: it passes each
+// place on, and has it after a refusal too.
 pub fn put_action(out: &mut [u8], at: usize, action: Action) -> Result<usize, Refusal>
     ensures place { put_gives result ≡ put_action_rule (length out.old) at action }
     ensures bytes { out.new ≡ action_put out.old at action }

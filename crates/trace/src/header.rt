@@ -6,7 +6,7 @@ use crate::parts::{MOST_LENGTH, PLAIN_BYTE, VERSION};
 use ring::{Refusal, Ring};
 use rules::state::Size;
 
-// The mode that a mode byte stands for, which may be out of range.
+// The mode that a mode byte stands for. A number and no enum: it may be out of range, which `Ring::accepts` refuses.
 fn mode_of(byte: u8) -> u32
     ensures { result ≡ mode_of byte }
 {

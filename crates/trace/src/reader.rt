@@ -9,7 +9,8 @@ use crate::parts::FIRST_ACTION;
 use crate::walk::replay_from;
 use ring::{Coded, Replay, action_at};
 
-// A trace that is read: its bytes, which the reader keeps hold of, and the place of the next action.
+// A trace that is read: its bytes, which the reader keeps hold of, and the place of the next action. All the bytes with a place, and no rest of them:
+// the header stands at their start, the stop of a replay is told from there, and a place may be past the end.
 #[derive(Clone, Copy)]
 pub struct TraceReader<'a> {
     pub bytes: &'a [u8],

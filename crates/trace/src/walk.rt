@@ -8,6 +8,7 @@ use ring::replay::refused_replay;
 use ring::{Answer, Refusal, Replay, Ring};
 
 // A run of the bytes from `from` on, told as one of all `length` bytes. Where it stops before their end, the action there is unknown or cut.
+// An `Answer` and no Result: a replay answers as an action does.
 fn told_from(run: Replay, length: usize, from: usize) -> Replay
     requires { from + run.stop < 2 ^ 64 }
     ensures { replay_outcome result ≡ told_from length from (replay_outcome run) }

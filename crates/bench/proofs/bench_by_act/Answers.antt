@@ -1,5 +1,5 @@
 -- A turn is the action that the definition chooses.
-use Rattle.std.proofs.Common.{arith, ap, ◌∙◌}
+use Rattle.std.proofs.Common.{ap, ◌∙◌}
 use Rattle.rules.specs.Act.{act}
 use Rattle.ring.specs.Ring.{state_of}
 use Rattle.bench.specs.Loop.{looped}
@@ -8,8 +8,8 @@ use Rattle.bench.proofs.bench_by_act.Goals as goal
 
 pub loop-i-init : goal.loop-i-init
 unfolding looped
-loop-i-init c = (omega arith, c.fresh-s.ensures)
+loop-i-init c = c.fresh-s.ensures
 
 pub loop-i-preserved : goal.loop-i-preserved
 loop-i-preserved c =
-    (omega arith, looped-next c.loop-i.i c.loop-i.invariant.1 (c.act-s.ensures ∙ ap (act (state_of c.loop-i.s.ring)) c.next_action-action.ensures))
+    looped-next c.loop-i.i c.loop-i.invariant (c.act-s.ensures ∙ ap (act (state_of c.loop-i.s.ring)) c.next_action.ensures)

@@ -1,9 +1,6 @@
 -- `bench_drain` drains the ring that the trace leaves: each further drain gives what the first gave, and leaves the buffer as it is. Assumes nothing.
-use Rattle.std.proofs.Common.{◌≡◌, ◌-◌}
+use Rattle.std.proofs.Common.{◌≡◌}
 use Rattle.bench.proofs.bench_drain.Given as goal
 
-abbrev pub invariant-loop-i : goal.invariant-loop-i
-invariant-loop-i l = (l.buffer ≡ l.initial.buffer) × (l.made ≡ l.initial.made)
-
-abbrev pub decreases-loop-i : goal.decreases-loop-i
-decreases-loop-i l = l.turns - l.i
+abbrev pub invariant-loop : goal.invariant-loop
+invariant-loop l = (l.buffer ≡ l.initial.buffer) × (l.made ≡ l.initial.made)
