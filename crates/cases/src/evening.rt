@@ -15,12 +15,10 @@ const MOST_DRAINS: u32 = 1000;
 
 const LENGTHS: [usize; 8] = [0, 1, 2, 3, 5, 8, 13, LENT];
 
-const TWO_32: u64 = 4294967296;
-
 // Whether this is reading j as it is stored: its number j in the upper half, its value 3 * j + 7 in the lower.
 fn is_reading(stored: u64, j: u64) -> bool {
     let value = j.wrapping_mul(3).wrapping_add(7);
-    stored == j.wrapping_mul(TWO_32).wrapping_add(value)
+    stored == (j << 32).wrapping_add(value)
 }
 
 // How many of the elements are the readings from `from` on, each in its place.

@@ -1,6 +1,4 @@
 // K12: set-ups in and out of range. Then a ring out of shape.
-ghost use Rattle.std.specs.Prelude.{◌≤◌};
-
 use crate::steps::fresh;
 use ring::{Action, Ring};
 
@@ -13,12 +11,10 @@ fn k12() {
     fresh(16, 16, Ring::STOP);
 }
 
-// A drain that is lent n elements: its last answer.
-fn drain_line(text: &[u8], ring: Ring, n: usize)
-    requires { n ≤ 1 }
-{
-    let mut buffer = [0u64; 1];
-    if let Some(answer) = ring.drain(&mut buffer[..n]).last {
+// A drain that is lent N elements: its last answer.
+fn drain_line<const N: usize>(text: &[u8], ring: Ring) {
+    let mut buffer = [0u64; N];
+    if let Some(answer) = ring.drain(&mut buffer).last {
         text::answer_line(text, answer);
     }
 }
@@ -31,8 +27,8 @@ fn out_of_shape() {
     for action in [Action::Begin(70), Action::Write, Action::Read] {
         text::action_line(action, ring.act(action).answer);
     }
-    drain_line(b"drain of 0", ring, 0);
-    drain_line(b"drain of 1", ring, 1);
+    drain_line::<0>(b"drain of 0", ring);
+    drain_line::<1>(b"drain of 1", ring);
     text::receipt(ring.size, ring.receipt());
 }
 

@@ -9,7 +9,7 @@ const FACTOR: u32 = 1664525;
 
 const TERM: u32 = 1013904223;
 
-pub(crate) const TWO_32: u64 = 4294967296;
+const TWO_32: u64 = 4294967296;
 
 // How many slots a chain has: half of the room.
 const CHAIN: usize = 136;
@@ -63,7 +63,7 @@ impl Digest {
 
     fn count(self, count: u64) -> Digest {
         let low = (count % TWO_32) as u32;
-        let high = (count / TWO_32) as u32;
+        let high = (count >> 32) as u32;
         self.fold(low).fold(high)
     }
 

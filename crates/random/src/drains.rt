@@ -1,7 +1,7 @@
 // One drain of a ring, drawn, made and folded in, and the last answers of many.
 ghost use Rattle.std.specs.Prelude.{◌≤◌};
 
-use crate::digest::{Digest, TWO_32};
+use crate::digest::Digest;
 use crate::draws::Generator;
 use ring::{Answer, Ring};
 use text::Tally;
@@ -49,7 +49,7 @@ fn draw_length(s: &mut Generator) -> u32
 
 // No two elements are alike, so that one that is not kept or is stored elsewhere is seen.
 fn draw_buffer(s: &mut Generator) -> [u64; 40] {
-    let before = u64::from(s.any()) * TWO_32;
+    let before = u64::from(s.any()) << 32;
     std::array::from_fn(|j| before + (j as u64))
 }
 

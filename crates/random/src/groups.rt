@@ -90,9 +90,10 @@ fn fold_action(h: Digest, ring: Ring, action: Action, tally: &mut Tally) -> Dige
 // A state's receipt, and then each action on the state itself.
 fn run_state(h: Digest, mut s: Generator, ring: Ring, tally: &mut Tally) -> Digest {
     let mut d = h.receipt(ring.receipt());
-    d = fold_action(d, ring, Action::Begin(s.any()), tally);
-    d = fold_action(d, ring, Action::Write, tally);
-    fold_action(d, ring, Action::Read, tally)
+    for action in [Action::Begin(s.any()), Action::Write, Action::Read] {
+        d = fold_action(d, ring, action, tally);
+    }
+    d
 }
 
 pub(crate) fn run() {

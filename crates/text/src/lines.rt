@@ -1,8 +1,9 @@
 // Headings, and lines of two columns about an action, a ring or a trace. Each function that prints answers whether it could.
 use crate::covers::{Covers, RefusedTrace};
 use crate::names::Answered;
-use crate::put::{Line, Many, print_line, whole_line};
+use crate::put::{Line, Many, print_line, two_columns, whole_line};
 use ring::{Action, Answer, Numbers, answer_numbers};
+use std::fmt::Display;
 
 // The first line of a text's first section.
 pub fn heading(text: &[u8]) -> bool {
@@ -19,18 +20,21 @@ pub fn section(text: &[u8]) -> bool {
     section_break() & heading(text)
 }
 
+// A value under a first column of any bytes.
+fn value_line<V: Display + Drop>(text: &[u8], value: V) -> bool {
+    let mut line = Line::labelled(text);
+    write!(line, "{value}");
+    line.print()
+}
+
 // A number that is said of a ring or of a run.
 pub fn number_line(text: &[u8], n: u64) -> bool {
-    let mut line = Line::labelled(text);
-    write!(line, "{n}");
-    line.print()
+    value_line(text, n)
 }
 
 // An answer, under a first column of the caller's.
 pub fn answer_line(text: &[u8], a: Answer) -> bool {
-    let mut line = Line::labelled(text);
-    write!(line, "{}", Answered(answer_numbers(a)));
-    line.print()
+    value_line(text, Answered(answer_numbers(a)))
 }
 
 // A digest, with a first column that has a number in it.
@@ -47,11 +51,8 @@ pub fn digest_line(before: &[u8], n: u64, after: &[u8], digest: u32) -> bool {
 
 // A set-up and its answer. Three numbers and no Size: they are as they were asked for, and may be refused.
 pub fn fresh_line(pages: u32, slots: u32, mode: u32, a: Answer) -> bool {
-    let mut line = Line::new();
-    write!(line, "  fresh({pages}, {slots}, {mode})");
-    line.pad();
-    write!(line, "{}", Answered(answer_numbers(a)));
-    line.print()
+    let set_up = format_args!("fresh({pages}, {slots}, {mode})");
+    two_columns(set_up, Answered(answer_numbers(a)))
 }
 
 // An action and its answer.
@@ -61,15 +62,12 @@ pub fn action_line(action: Action, a: Answer) -> bool {
 
 // An action and its answer, where the answer was kept as its numbers.
 pub fn numbers_line(action: Action, n: Numbers) -> bool {
-    let mut line = Line::new();
+    let answered = Answered(n);
     match action {
-        Action::Begin(value) => write!(line, "  Begin {value}"),
-        Action::Write => write!(line, "  Write"),
-        Action::Read => write!(line, "  Read"),
+        Action::Begin(value) => two_columns(format_args!("Begin {value}"), answered),
+        Action::Write => two_columns("Write", answered),
+        Action::Read => two_columns("Read", answered),
     }
-    line.pad();
-    write!(line, "{}", Answered(n));
-    line.print()
 }
 
 // The words of pages 0 to N, as far as there are any: no function here asks that a ring is in shape.
@@ -84,16 +82,12 @@ pub fn words_line(link_words: &[u32; 17], pages: u32) -> bool {
 
 // Where the commit position stands.
 pub fn commit_line(page: u32, index: u32) -> bool {
-    let mut line = Line::labelled(b"commit");
-    write!(line, "page {page}, index {index}");
-    line.print()
+    value_line(b"commit", format_args!("page {page}, index {index}"))
 }
 
 // A trace's refusal.
 pub fn trace_line(covers: Covers) -> bool {
-    let mut line = Line::labelled(b"trace");
-    write!(line, "{}", RefusedTrace(covers));
-    line.print()
+    value_line(b"trace", RefusedTrace(covers))
 }
 
 // How many traces there are, and how many of each kind. Numbers and no struct: what counts them is a type of the replay's.

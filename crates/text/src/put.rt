@@ -141,6 +141,15 @@ pub(crate) fn print_line<D: Display + Drop>(text: D) -> bool {
     line.print()
 }
 
+// A line of two columns that are values.
+pub(crate) fn two_columns<A: Display + Drop, B: Display + Drop>(first: A, second: B) -> bool {
+    let mut line = Line::new();
+    write!(line, "  {first}");
+    line.pad();
+    write!(line, "{second}");
+    line.print()
+}
+
 // A line of a text that may be longer than the buffer: it is written as it stands.
 pub(crate) fn whole_line(text: &[u8]) -> bool {
     io::write_all(STDOUT, text) & io::write_all(STDOUT, b"\n")
