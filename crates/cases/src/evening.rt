@@ -29,7 +29,7 @@ fn in_order(part: &[u64], from: u64) -> u64 {
         .count() as u64
 }
 
-// How many elements from `count` on are as they were.
+// How many elements from `count` on are as they were. A count and no slice: a drain's part is borrowed from the buffer, and only how long it was is left.
 pub(crate) fn kept(buffer: &[u64; LENT], count: usize) -> u64 {
     buffer
         .iter()
@@ -60,6 +60,7 @@ struct Evening {
 }
 
 impl Evening {
+    // No derived Default: the ring of an evening is set up, and that has its line.
     fn new() -> Evening {
         Evening {
             counted: Counted::fresh(),
@@ -72,6 +73,7 @@ impl Evening {
         }
     }
 
+    // As in the program of random lists; the two share no library but those of the ring, which count no drains.
     fn count_last(&mut self, last: Option<Answer>) {
         match last {
             None => self.none = self.none.wrapping_add(1),
@@ -79,7 +81,7 @@ impl Evening {
         }
     }
 
-    // A drain that is lent the first n elements: whether its last answer was an Event.
+    // A drain that is lent the first n elements: whether its last answer was an Event. A number and no slice: what was not lent is looked at too.
     fn drain(&mut self, n: usize) -> bool
         requires { n ≤ 64 }
     {

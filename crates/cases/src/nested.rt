@@ -1,4 +1,4 @@
-// K9 to K11: nested writers, each from a fresh ring.
+// K9 to K11: nested writers, each from a fresh ring. Calls and no table of actions: a row would need a count beside its action.
 use crate::steps::Shown;
 
 fn k9() {

@@ -4,7 +4,7 @@ ghost use Rattle.std.specs.Prelude.{◌≤◌};
 use crate::evening::{LENT, OLD, kept};
 use ring::Ring;
 
-// The replay of some bytes, with room for n numbers.
+// The replay of some bytes, with room for n numbers. A number and no slice: what was not lent is looked at too.
 fn replay_lines(text: &[u8], bytes: &[u8], n: usize)
     requires { n ≤ 64 }
 {

@@ -1,4 +1,4 @@
-// K1 to K8: one ring of two pages.
+// K1 to K8: one ring of two pages. Calls and no table of actions: between them stand the lines that a case shows of the ring.
 use crate::steps::Shown;
 
 fn k1() -> Shown {

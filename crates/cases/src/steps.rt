@@ -1,7 +1,7 @@
 // A ring whose actions are printed, a line each.
 use ring::{Action, Ring};
 
-// A set-up and its line; the ring that it gives.
+// A set-up and its line; the ring that it gives. Three numbers and no Size, as `Ring::fresh` takes them: some are out of range.
 pub(crate) fn fresh(pages: u32, slots: u32, mode: u32) -> Ring {
     let made = Ring::fresh(pages, slots, mode);
     text::fresh_line(pages, slots, mode, made.answer);

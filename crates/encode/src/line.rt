@@ -7,7 +7,7 @@ use std::str::from_utf8;
 // What a line says that has a word.
 #[derive(Clone, Copy)]
 pub enum Said {
-    // a set-up, in range or not
+    // a set-up, in range or not: its mode may be any number
     Fresh(Size),
     Act(Action),
 }

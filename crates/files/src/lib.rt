@@ -15,6 +15,7 @@ mod status; // how a program ended
 pub use arguments::{argument, argument_count};
 pub use load::{Unreadable, read_file};
 pub use names::{NAME, name_buffer};
-pub use output::{STDERR, STDOUT, is_piped};
+pub use output::is_piped;
 pub use status::{Status, tell};
+pub use text::{STDERR, STDOUT};
 pub use words::is_word;

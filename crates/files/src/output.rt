@@ -3,10 +3,6 @@ use std::fs;
 use std::fs::Files;
 use std::os::unix::fs::FileTypeExt;
 
-pub const STDOUT: i32 = 1;
-
-pub const STDERR: i32 = 2;
-
 // Whether standard output is a pipe or a socket. What is written there and fails has lost its reader: nothing that is printed later reaches anyone.
 pub fn is_piped<R: Files>(rt: &R) -> bool {
     fs::metadata(rt, "/proc/self/fd/1").is_ok_and(|output| {

@@ -1,7 +1,7 @@
 // Why a file cannot be read, as the system words it.
-use crate::output::STDERR;
 use std::fmt::InlineText;
 use std::io::Error;
+use text::STDERR;
 
 // The library adds the error's number to the system's words; here these stand alone.
 fn system_words(text: &str) -> &str {

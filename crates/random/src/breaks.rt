@@ -1,4 +1,5 @@
-// A random state out of shape: one in shape with one thing broken.
+// A random state out of shape: one in shape with one thing broken. Which of two things it is, is a flag: a break's name stands beside it where it is
+// chosen. The generator, the set-up and the ring are three parameters and no struct: the generator is drawn from while the ring is changed.
 use crate::draws::{Generator, Setup};
 use crate::writers::{reader_phase, seen_phase};
 use ring::{PageNo, Ring};
@@ -167,7 +168,7 @@ fn broken_reader(s: &mut Generator, setup: Setup, is_header: bool) -> ReaderPhas
     reader_phase(is_ready, p, h)
 }
 
-// A count past its limit.
+// A count past its limit. It is past 32 bits, so that `over` is none for it.
 fn no_count(s: &mut Generator) -> u64 {
     Ring::MOST_COUNT + 1 + u64::from(s.excess())
 }
@@ -177,6 +178,7 @@ fn over_rest(whole: u64, part: u64) -> u64 {
     whole.wrapping_sub(part).wrapping_add(1)
 }
 
+// What each break is. A match and no table of closures: they would differ in what they take.
 pub(crate) fn break_ring(s: &mut Generator, setup: Setup, kind: Break, ring: &mut Ring) {
     let slots = setup.size.slots;
     let c = ring.counts;

@@ -9,6 +9,7 @@ const FACTOR: u32 = 1664525;
 
 const TERM: u32 = 1013904223;
 
+// What a number of 64 bits is taken by before a cast to 32, which may lose nothing.
 const TWO_32: u64 = 4294967296;
 
 // How many slots a chain has: half of the room.
@@ -83,7 +84,7 @@ impl Digest {
         }
     }
 
-    // How many elements a drain filled, and all of the buffer, of which a part was lent.
+    // How many elements a drain filled, and all of the buffer, of which a part was lent: what it left alone is folded too.
     pub(crate) fn buffer(self, count: usize, buffer: &[u64; 40]) -> Digest {
         // the count is at most 40: no more are lent
         let h = self.fold(((count as u64) % TWO_32) as u32);

@@ -15,7 +15,7 @@ fn act(ring: Ring, action: Action, h: &mut Digest) -> Ring {
     made.ring
 }
 
-// Of a hundred turns 15 are Begins, 60 Writes, 10 Reads and 15 drains.
+// Of a hundred turns 15 are Begins, 60 Writes, 10 Reads and 15 drains. A draw chooses, and no closure: a drain takes more than an action.
 fn turn(s: &mut Generator, ring: Ring, h: &mut Digest, lasts: &mut Lasts) -> Ring {
     match s.below(100) {
         0..15 => act(ring, Action::Begin(s.any()), h),

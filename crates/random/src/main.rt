@@ -12,6 +12,7 @@ mod groups; // groups of states
 mod drains; // one drain of a ring
 mod drain_groups; // drains of lists and of states
 
+// Four runs of one form: what they share is `each_group`, and each has titles, seeds and counts of its own.
 fn main() {
     lists::run();
     groups::run();

@@ -30,7 +30,7 @@ fn draw_places(s: &mut Generator, setup: Setup) -> Places {
     }
 }
 
-// A word of a page in the ring. A bare ring has no HEADER.
+// A word of a page in the ring. A bare ring has no HEADER: a flag, drawn once for all its words.
 fn draw_word(s: &mut Generator, setup: Setup, is_bare: bool) -> u32 {
     let next = s.page(setup).0;
     if is_bare {

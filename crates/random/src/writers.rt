@@ -1,4 +1,5 @@
-// The stack and the reader of a random state.
+// The stack and the reader of a random state. The generator, the set-up and the words are three parameters and no struct: the generator alone is changed,
+// and a struct would be taken apart in each function. Two kinds are drawn as a number or a flag, and no enum stands between a draw and its match.
 use crate::draws::{Generator, Setup};
 use ring::PageNo;
 use ring::words::page_in;

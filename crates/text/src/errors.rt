@@ -1,4 +1,5 @@
-// What goes wrong with a file, as lines on standard error. Each begins with the command's name.
+// What goes wrong with a file, as lines on standard error. Each begins with the command's name. What follows the file's name is put by each function
+// itself: a reason is any bytes, and a refusal a value that prints.
 use crate::covers::{Covers, RefusedTrace};
 use crate::put::Line;
 

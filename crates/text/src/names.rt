@@ -75,6 +75,7 @@ pub(crate) enum Values {
     Two(u64, u64),
 }
 
+// By code, as a Kind is printed.
 impl From<Numbers> for Values {
     fn from(n: Numbers) -> Values {
         match n.code {

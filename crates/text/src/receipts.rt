@@ -45,7 +45,7 @@ pub fn sum_of_six(r: Receipt) -> u64
     r.handed.wrapping_add(lost(r)).wrapping_add(remaining(r))
 }
 
-// ---- the lines, joined by `&`: one after a line that could not be written is tried all the same
+// ---- the lines, joined by `&`: one after a line that could not be written is tried all the same. A call and no row of a table: it says no more
 
 // A count: what it is of, and the name that the rules have for it.
 fn count_line(text: &str, count: u64, name: &str) -> bool {
