@@ -73,7 +73,7 @@ impl Evening {
         }
     }
 
-    // As in the program of random lists; the two share no library but those of the ring, which count no drains.
+    // As in the program of random lists: the two share the ring's libraries alone, and these count no drains.
     fn count_last(&mut self, last: Option<Answer>) {
         match last {
             None => self.none = self.none.wrapping_add(1),

@@ -1,4 +1,4 @@
-// The counts of a random state: small ones, and three kinds near the limit.
+// The counts of a random state: small ones, and three kinds near the limit. Each names all six: what is 0 is of its kind, and no default.
 use crate::draws::Generator;
 use ring::Ring;
 use rules::state::Counts;

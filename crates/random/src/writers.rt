@@ -1,5 +1,6 @@
 // The stack and the reader of a random state. The generator, the set-up and the words are three parameters and no struct: the generator alone is changed,
-// and a struct would be taken apart in each function. Two kinds are drawn as a number or a flag, and no enum stands between a draw and its match.
+// and a struct would be taken apart in each function. A phase is drawn as a number, and whether a record is below the depth, or a reader ready, is a flag:
+// an enum would only stand between a draw and its match.
 use crate::draws::{Generator, Setup};
 use ring::PageNo;
 use ring::words::page_in;

@@ -26,6 +26,7 @@ pub struct Totals {
 }
 
 impl Totals {
+    // No derived Default: all of no text was written.
     pub const NONE: Totals = Totals {
         complete: 0,
         incomplete: 0,
