@@ -2,8 +2,8 @@
 -- Assumes nothing.
 use mathlib.Core.Path.{◌≡◌, ap, ◌∙◌}
 use mathlib.Core.List.{List, [], ◌∷◌, ◌++◌, append_assoc, append-nil}
-use Prim.Native.Nat.{ℕ, ◌+◌, ◌-◌, ◌*◌, ◌/◌, ◌%◌, ◌≤◌, ◌<◌}
-use native.Mathlib.Nat.{mod-add-div, mod-eq_of_lt, div-div-eq-div-mul}
+use Prim.Native.Nat.{ℕ, ◌+◌, ◌-◌, ◌/◌, ◌%◌, ◌≤◌, ◌<◌}
+use Rattle.std.proofs.lemmas.Nat.{from_le_bytes-to_le_bytes_4}
 use native.Mathlib.Omega.{arith}
 use borrow.Author.Tests.{le-leb, lt-leb, le-ltb}
 use lib.ListN.{length, length-append}
@@ -18,16 +18,10 @@ use Rattle.rules.proofs.actions.Laws.{decoded-whole, decoded-stops}
 
 -- ---- one action
 
--- a number from its four digits to the base 256, each with the number that is left
-join : (r₀ r₁ r₂ r₃ : ℕ) {v q₁ q₂ q₃ : ℕ} → r₀ + 256 * q₁ ≡ v → r₁ + 256 * q₂ ≡ q₁ → r₂ + 256 * q₃ ≡ q₂ → r₃ ≡ q₃ → value_of r₀ r₁ r₂ r₃ ≡ v
-join r₀ r₁ r₂ r₃ a b c d = omega arith
-
 value-back : (v : ℕ) → v ≤ most_count → value_of (v % 256) (v / 256 % 256) (v / 65536 % 256) (v / 16777216 % 256) ≡ v
 value-back v h =
-    join (v % 256) (v / 256 % 256) (v / 65536 % 256) (v / 16777216 % 256) (mod-add-div v 256)
-    (rw (div-div-eq-div-mul v 256 256) at (mod-add-div (v / 256) 256))
-    (rw (div-div-eq-div-mul v 65536 256) at (mod-add-div (v / 65536) 256))
-    (mod-eq_of_lt (omega arith))
+    let e = from_le_bytes-to_le_bytes_4 v (omega arith) in
+    omega (arith, e)
 
 module _ (pre rest : List ℕ) where
   -- a byte that stands at a place is before the end

@@ -5,7 +5,6 @@ use mathlib.Core.Path.{◌≡◌, refl, sym, ap, ◌∙◌}
 use mathlib.Core.Logic.{◌≢◌}
 use mathlib.Core.List.{List, []}
 use Prim.Native.Nat.{ℕ}
-use native.Mathlib.Omega.{arith}
 use lib.ListN.{length}
 use Rattle.std.specs.Prelude.{Result, Ok, Err}
 use seplogic.Ra.Ura.{Ura}
@@ -66,9 +65,6 @@ abbrev size_in : Result Size Refusal → Size
 size_in (Ok size) = size
 size_in (Err why) = size_of 0 0 0
 
-ready-once : {h : Result Size Refusal} {pages slots mode : ℕ} {why : Refusal} {P : Type 0} → h ≡ Err why → h ≡ Ok (size_of pages slots mode) → P
-ready-once r e = let z : ◌≡◌ {A = ℕ} 0 1 = cc in absurd (omega arith)
-
 module _ (bytes : List ℕ) (at : ℕ) (buffer : List ℕ) (r : Replay) (then : List ℕ) where
   abbrev Began : Ring → List Single → Type 0
   Began = TraceReplayed promises bytes at buffer r then
@@ -106,14 +102,14 @@ module _ (bytes : List ℕ) (at : ℕ) (buffer : List ℕ) (r : Replay) (then : 
           answers = filled ∙ ap (λ (l : List Answer). over (laid l) buffer) (sym (makes-answered fresh actions));
           set_up = λ n s m ready other. set-up n s m (ready-fits bytes ready) (ring_of fresh) (ap (λ (h : Result Size Refusal). fresh_ring (size_in h)) (sym says ∙ ready));
           actions = λ n s m ready other. makes-asked fresh actions;
-          unmade = λ why is. ready-once is says;
+          unmade = λ why is. cc;
           unplaced = λ is. absurd (walked-not-room bytes at (fresh_ring (size_of pages slots mode)) (sym (ap (λ (o : ReplayOutcome). o.answer) e) ∙ is));
         })
 
   by-header : (h : Result Size Refusal) → header_of bytes ≡ h → Walks bytes at buffer r then → ForCalls promises Began r.ring
   unfolding replayed_from buffer_from
   by-header (Err why) says g =
-      refused-claim why (g.0 ∙ rw says refl) (g.1 ∙ rw says refl) (λ pages slots mode ready other. ready-once says ready)
+      refused-claim why (g.0 ∙ rw says refl) (g.1 ∙ rw says refl) (λ pages slots mode ready other. cc)
   by-header (Ok size) says g =
       by_bool (buffer_fits (walk_actions bytes at) (length buffer))
       (λ room. walk-claim size.pages size.slots size.mode says (g.0 ∙ rw (says, room) refl) (g.1 ∙ rw (says, room) refl))

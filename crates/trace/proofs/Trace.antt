@@ -45,13 +45,10 @@ module _ (pages slots mode : ℕ) (actions : List Action) where
 
 -- ---- writing
 
--- an answer is a place or a refusal, and never both
+-- an answer is a place or a refusal
 by-put : {P : Type 0} (p : Result ℕ Refusal) → ((next : ℕ) → p ≡ Ok next → P) → ((why : Refusal) → p ≡ Err why → P) → P
 by-put (Ok next) x y = x next refl
 by-put (Err why) x y = y why refl
-
-not-both : {P : Type 0} {p : Result ℕ Refusal} {why : Refusal} {end : ℕ} → p ≡ Err why → p ≡ Ok end → P
-not-both r h = let z : ◌≡◌ {A = ℕ} 0 1 = cc in absurd (omega arith)
 
 -- after a refusal there is no call
 refused-stays : (why : Refusal) (out : List ℕ) (actions : List Action) → (written_from (Err why) out actions).place ≡ Err why
@@ -105,7 +102,7 @@ module _ (out : List ℕ) where
       let k = over-length pre out f in
       let o = one_more pre a rest e in
       rw (o, ← append_assoc) (wrote-from (pre ++ action_bytes a) rest end (omega arith) (omega arith) (rw o at h)))
-      (λ why e. not-both (refused-after (put (action_bytes a) (length pre) (over pre out)) (over pre out) rest e) h)
+      (λ why e. let r = refused-after (put (action_bytes a) (length pre) (over pre out)) (over pre out) rest e in absurd cc)
 
 module _ (pages slots mode : ℕ) (actions : List Action) (out : List ℕ) where
   -- the first call
@@ -131,7 +128,7 @@ module _ (pages slots mode : ℕ) (actions : List Action) (out : List ℕ) where
         holds = rw b w.holds;
         reads = read_back pages slots mode actions v p.accepted (rw w.stop at w.short);
       })
-      (λ why e. not-both (refused-after (put (header_bytes pages slots mode) 0 out) out actions e) h)
+      (λ why e. let r = refused-after (put (header_bytes pages slots mode) 0 out) out actions e in absurd cc)
 
 -- ---- the replay of what was written
 

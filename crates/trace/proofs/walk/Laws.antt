@@ -19,7 +19,7 @@ use Rattle.rules.specs.Shape.{size_fits}
 use Rattle.rules.specs.Actions.{Decoded, byte_at, decoded, Decodes}
 use Rattle.rules.specs.Replay.{told_replay, ran_buffer, buffer_fits, buffer_rule, refused_replay, ran, replay_rule, ReplayOutcome}
 use Rattle.trace.specs.Header.{mode_of, set_up, pages_at, slots_at, mode_at, set_up_in, header_rows, header_of}
-use Rattle.trace.specs.Replays.{walk_place, walk_bytes, walk_actions, whole_to, walked, replayed_by, replayed_from, NineRight}
+use Rattle.trace.specs.Replays.{walk_place, walk_bytes, walk_actions, walked, replayed_by, replayed_from, NineRight}
 use Rattle.rules.specs.declared.state.Size.{Size}
 use Rattle.rules.specs.declared.state.Refusal.{Refusal}
 use Rattle.rules.specs.declared.state.Refusal.TheVariants as refusal
@@ -34,26 +34,13 @@ place-within len at = min-le_right at len
 
 -- ---- the header
 
--- a refusal of the header is not that of an action
-abbrev OfHeader : Refusal → Type 0
-OfHeader refusal.Mark = Unit {0}
-OfHeader refusal.Version = Unit {0}
-OfHeader refusal.Sizes = Unit {0}
-OfHeader refusal.Shape = ⊥
-OfHeader refusal.Depth = ⊥
-OfHeader refusal.Nobody = ⊥
-OfHeader refusal.Worn = ⊥
-OfHeader refusal.SetUp = ⊥
-OfHeader refusal.Action = ⊥
-OfHeader refusal.Room = ⊥
-
--- what it says is a set-up that a ring accepts, or a refusal of its own
+-- what it says is a set-up that a ring accepts, or a refusal that is not that of an action
 abbrev pub Accepts : Result Size Refusal → Type 0
 Accepts (Ok size) = size_fits size ≡ true
-Accepts (Err why) = OfHeader why
+Accepts (Err why) = why ≡ refusal.Action → ⊥
 
 set-up-accepts : (pages slots mode : ℕ) → Accepts (set_up pages slots mode)
-set-up-accepts pages slots mode = by_cond Accepts (size_fits (size_of pages slots (mode_of mode))) (λ e. e) (λ e. tt)
+set-up-accepts pages slots mode = by_cond Accepts (size_fits (size_of pages slots (mode_of mode))) (λ e. e) (λ e q. cc)
 
 -- what holds beside each test of a list, and otherwise, holds of the first that passes
 abbrev Each : (Result Size Refusal → Type 0) → List (Bool × Result Size Refusal) → Type 0
@@ -66,7 +53,7 @@ first_holds P (row ∷ rows) otherwise hs h = by_cond P row.0 (λ e. hs.0) (λ e
 
 pub header-accepts : (bytes : List ℕ) → Accepts (header_of bytes)
 header-accepts bytes =
-    first_holds Accepts (header_rows bytes) (set_up_in bytes) (tt, (tt, (tt, (tt, tt))))
+    first_holds Accepts (header_rows bytes) (set_up_in bytes) ((λ q. cc), ((λ q. cc), ((λ q. cc), ((λ q. cc), tt))))
     (set-up-accepts (byte_at bytes pages_at) (byte_at bytes slots_at) (byte_at bytes mode_at))
 
 pub ready-fits : (bytes : List ℕ) {pages slots mode : ℕ} → header_of bytes ≡ Ok (size_of pages slots mode) → size_fits (size_of pages slots mode) ≡ true
@@ -107,50 +94,38 @@ module _ (bytes : List ℕ) (at : ℕ) where
   refused-right : (why : Refusal) (r : ReplayOutcome) → (why ≡ refusal.Action → ⊥) → r.answer ≡ answer.Refused why → NineRight bytes r
   refused-right why r n e =
       record {
-        nine = λ h. let same : why ≡ refusal.Action = cc in absurd (n same);
-        told = λ h. let same : why ≡ refusal.Action = cc in absurd (n same);
-        whole = λ h. let z : ◌≡◌ {A = ℕ} 0 1 = cc in absurd (omega arith);
+        nine = λ h. absurd (n cc);
+        told = λ h. absurd (n cc);
+        whole = λ h. cc;
       }
-
-  room-not-action : refusal.Room ≡ refusal.Action → ⊥
-  room-not-action e = let z : ◌≡◌ {A = ℕ} 0 1 = cc in omega arith
 
   -- a walk is not refused with 10
   pub walked-not-room : (r : State) → (walked (length bytes) r d).answer ≡ answer.Refused refusal.Room → ⊥
   walked-not-room r e =
       by_bool (eqb d.stop (length bytes))
-      (λ t. let q : answer.Accepted ≡ answer.Refused refusal.Room = rw t at e in let z : ◌≡◌ {A = ℕ} 0 1 = cc in omega arith)
-      (λ f. let q : answer.Refused refusal.Action ≡ answer.Refused refusal.Room = rw f at e in room-not-action cc)
+      (λ t. let q : answer.Accepted ≡ answer.Refused refusal.Room = rw t at e in cc)
+      (λ f. let q : answer.Refused refusal.Action ≡ answer.Refused refusal.Room = rw f at e in cc)
 
   walked-right : (r : State) → NineRight bytes (walked (length bytes) r d)
   walked-right r =
       record {
         nine = λ h.
             by-eq d.stop (length bytes)
-            (λ e. let z : ◌≡◌ {A = ℕ} 0 1 = accepted-or h (eq-eqb d.stop (length bytes) e) in absurd (omega arith))
+            (λ e. let q : answer.Accepted ≡ answer.Refused refusal.Action = rw (eq-eqb d.stop (length bytes) e) at h in absurd cc)
             (λ n. from_place.broken (place-within (length bytes) at) n);
         told = λ h. ap (λ (a : Answer). told_replay a d.stop) h;
         whole = λ h.
             by-eq d.stop (length bytes)
             (λ e. e)
-            (λ n. let z : ◌≡◌ {A = ℕ} 0 1 = refused-or h (ne_eqb d.stop (length bytes) n) in absurd (omega arith));
+            (λ n. let q : answer.Refused refusal.Action ≡ answer.Accepted = rw (ne_eqb d.stop (length bytes) n) at h in cc);
       }
-    where
-      accepted-or : whole_to (length bytes) d.stop ≡ answer.Refused refusal.Action → eqb d.stop (length bytes) ≡ true → ◌≡◌ {A = ℕ} 0 1
-      accepted-or h e = let q : answer.Accepted ≡ answer.Refused refusal.Action = rw e at h in cc
-
-      refused-or : whole_to (length bytes) d.stop ≡ answer.Accepted → eqb d.stop (length bytes) ≡ false → ◌≡◌ {A = ℕ} 0 1
-      refused-or h e = let q : answer.Refused refusal.Action ≡ answer.Accepted = rw e at h in cc
-
-  header-not-action : (why : Refusal) → OfHeader why → why ≡ refusal.Action → ⊥
-  header-not-action why h e = subst OfHeader e h
 
   by_right : (buffer : List ℕ) (h : Result Size Refusal) → Accepts h → NineRight bytes (replayed_by h bytes at buffer)
-  by_right buffer (Err why) ok = refused-right why (refused_replay why) (header-not-action why ok) refl
+  by_right buffer (Err why) ok = refused-right why (refused_replay why) ok refl
   by_right buffer (Ok size) ok =
       by_cond (NineRight bytes) (buffer_fits (walk_actions bytes at) (length buffer))
       (λ e. walked-right (fresh_ring size))
-      (λ e. refused-right refusal.Room (refused_replay refusal.Room) room-not-action refl)
+      (λ e. refused-right refusal.Room (refused_replay refusal.Room) (λ q. cc) refl)
 
   pub nine-right : (buffer : List ℕ) → NineRight bytes (replayed_from bytes at buffer)
   unfolding replayed_from
@@ -177,8 +152,7 @@ module _ (pages slots mode : ℕ) (bytes buffer : List ℕ) (fits : size_fits (s
       (λ enough. enough)
       (λ short.
       let refused : answer.Refused refusal.Room ≡ answer.Accepted = rw (fits, short) at e in
-      let z : ◌≡◌ {A = ℕ} 0 1 = cc in
-      absurd (omega arith))
+      cc)
 
   pub refused-short : ((replay_rule pages slots mode bytes buffer).answer ≡ answer.Accepted → ⊥) → buffer_fits (decoded bytes) (length buffer) ≡ false
   refused-short n =
