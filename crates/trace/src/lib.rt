@@ -4,8 +4,7 @@
 pub mod parts; // what a trace is made of
 pub mod header; // the header of a trace
 pub mod encode; // writing a trace
-pub mod walk; // the actions of a trace, made one by one
-pub mod reader; // the reader of a trace, which keeps hold of its bytes
+pub mod reader; // the reader of a trace, which keeps hold of its bytes, and the replay
 
 // what a caller names
 pub use encode::{put_action, put_header};
