@@ -3,34 +3,19 @@
 #![tactic(auto)]
 
 ghost use Rattle.std.specs.Prelude.{◌≡◌, length};
+ghost use Rattle.std.specs.Borrow.{MutBor};
+ghost use Rattle.rules.specs.Act.{act};
 ghost use Rattle.rules.specs.Drain.{drain_rule, buffer_after};
+ghost use Rattle.rules.specs.declared.state.Action.{Action};
+ghost use Rattle.ring.specs.Ring.{state_of, outcome};
+ghost use Rattle.ring.specs.declared.state.Step.{Step};
 ghost use Rattle.trace.specs.Header.{first_action};
 ghost use Rattle.trace.specs.Replays.{replayed_from, buffer_from};
 ghost use Rattle.bench.specs.Loop.{next_action, handed_after};
 
-use ring::{Action, Ring};
+use ring::{Action, Ring, Step};
 
-// A Write while a writer is at work, then Reads until nothing waits, then a Begin. The actions are made on a ring of 16 pages of 16 slots in stop
-// mode; the answer is how many readings they handed out.
-// A loop and a choice of its own beside `bench_by_act`: one loop for both with a closure that makes the action took 1.7 times as long here, and a
-// `match` on `next_action` 1.4 times, since they copy the ring more often.
-pub fn bench_by_methods(actions: u32) -> u64
-    ensures { result ≡ handed_after actions }
-{
-    let mut s = Ring::fresh(Ring::MOST_PAGES, Ring::MOST_SLOTS, Ring::STOP);
-    for i in 0..actions {
-        if 0 < s.ring.depth {
-            s = s.ring.write();
-        } else if s.ring.counts.handed < s.ring.counts.committed {
-            s = s.ring.read();
-        } else {
-            s = s.ring.begin(i);
-        }
-    }
-    s.ring.counts.handed
-}
-
-// The same choice as an action.
+// A Write while a writer is at work, then Reads until nothing waits, then a Begin.
 fn next_action(ring: &Ring, value: u32) -> Action
     ensures { result ≡ next_action ring.now.depth ring.now.counts.handed ring.now.counts.committed value }
 {
@@ -43,15 +28,38 @@ fn next_action(ring: &Ring, value: u32) -> Action
     }
 }
 
-// The same loop by `Ring::act`.
-pub fn bench_by_act(actions: u32) -> u64
+// So many of these actions, each made by `make` on the ring that the last one returned, on a ring of 16 pages of 16 slots in stop mode; the answer is
+// how many readings they handed out. `make` is lent the step that the last action returned, and leaves its own there: by value it copies the ring more
+// often.
+fn handed_by<F: Fn(&mut Step, Action)>(actions: u32, make: F) -> u64
+    requires callable { F.IsAlwaysCallable make }
+    requires makes { (s t : MutBor Step) (a : Action) → F.post make s a tt t → outcome t.now ≡ act (state_of s.now.ring) a }
     ensures { result ≡ handed_after actions }
 {
     let mut s = Ring::fresh(Ring::MOST_PAGES, Ring::MOST_SLOTS, Ring::STOP);
     for i in 0..actions {
-        s = s.ring.act(next_action(&s.ring, i));
+        let action = next_action(&s.ring, i);
+        make(&mut s, action);
     }
     s.ring.counts.handed
+}
+
+// The loop by the methods.
+pub fn bench_by_methods(actions: u32) -> u64
+    ensures { result ≡ handed_after actions }
+{
+    handed_by(actions, |s, action| match action {
+        Action::Begin(value) => *s = s.ring.begin(value),
+        Action::Write => *s = s.ring.write(),
+        Action::Read => *s = s.ring.read(),
+    })
+}
+
+// The same loop by `Ring::act`.
+pub fn bench_by_act(actions: u32) -> u64
+    ensures { result ≡ handed_after actions }
+{
+    handed_by(actions, |s, action| *s = s.ring.act(action))
 }
 
 // The replay of a trace, with its answers in the buffer lent; the answer is how many actions it made.

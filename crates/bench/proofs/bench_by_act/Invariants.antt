@@ -1,8 +1,0 @@
--- `bench_by_act` makes the actions of the definition: after i turns the step is that of the first i actions. Assumes nothing.
-use Rattle.std.proofs.Common.{◌≡◌}
-use Rattle.ring.specs.Ring.{outcome}
-use Rattle.bench.specs.Loop.{looped}
-use Rattle.bench.proofs.bench_by_act.Given as goal
-
-abbrev pub invariant-loop-i : goal.invariant-loop-i
-invariant-loop-i l = outcome l.s ≡ looped l.i
