@@ -17,30 +17,12 @@ use Rattle.rules.proofs.Lists.{least-is}
 pub record Tested (f : ℕ → Bool) (i : ℕ) (ok : Bool) : Type 0 where
   pub is : ok ≡ all_below i f
 
-pub tested-none : {f : ℕ → Bool} → Tested f 0 true
-tested-none = record { is = refl }
-
-pub tested-more : {f : ℕ → Bool} {i : ℕ} {ok b : Bool} → Tested f i ok → b ≡ f i → Tested f (i + 1) (ok && b)
-tested-more h e = record { is = rw (add-one, h.is, e) }
-
-pub tested-end : {f : ℕ → Bool} {i : ℕ} {ok : Bool} (m : ℕ) → Tested f i ok → i ≡ m → ok ≡ all_below m f
-tested-end m h e = rw (← e) h.is
-
 -- A loop that looks for a number: none of those below i passes. A record, for the same reason.
 pub record Unseen (f : ℕ → Bool) (i : ℕ) : Type 0 where
   pub is : least i f ≡ None
 
-pub unseen-none : {f : ℕ → Bool} → Unseen f 0
-unseen-none = record { is = refl }
-
-pub unseen-more : {f : ℕ → Bool} {i : ℕ} → Unseen f i → f i ≡ false → Unseen f (i + 1)
-unseen-more h e = record { is = rw (add-one, h.is, e) }
-
 pub unseen-seen : {f : ℕ → Bool} {i : ℕ} (m : ℕ) → Unseen f i → i < m → f i ≡ true → least m f ≡ Some i
 unseen-seen {f} {i} m h l e = least-is f m i l h.is e
-
-pub unseen-end : {f : ℕ → Bool} {i : ℕ} (m : ℕ) → Unseen f i → i ≡ m → least m f ≡ None
-unseen-end m h e = rw (← e) h.is
 
 -- a run of stores, and one more
 pub sets_more : (xs buffer : List ℕ) (from x k : ℕ) → k ≡ length xs → sets buffer from (xs ++ (x ∷ [])) ≡ set (sets buffer from xs) (from + k) x

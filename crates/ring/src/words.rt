@@ -46,10 +46,11 @@ impl Ring {
         requires { self.now.size.pages ≤ most_pages }
         ensures { result ≡ find_header self.now.words self.now.size.pages self.now.places.reader }
     {
-        for p in 0..=self.size.pages {
-            let w = self.words[p as usize];
-            if (p != self.places.reader.0) & (flag_in(w) == Ring::HEADER) {
-                return Some((PageNo(p), page_in(w)));
+        for i in 0..=self.size.pages {
+            let p = PageNo(i);
+            let w = self.word_at(p);
+            if (p != self.places.reader) & (flag_in(w) == Ring::HEADER) {
+                return Some((p, page_in(w)));
             }
         }
         None

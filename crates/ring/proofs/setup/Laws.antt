@@ -16,16 +16,6 @@ pub record WordsWritten (n : ℕ) (words : List ℕ) (i : ℕ) : Type 0 where
   pub long : length words ≡ page_room
   pub same : (k : ℕ) → k < i → get_or words k 0 ≡ fresh_word n k
 
-pub words-written-more : {n : ℕ} {words : List ℕ} {i : ℕ} (w : ℕ) → WordsWritten n words i → i < page_room → w ≡ fresh_word n i → WordsWritten n (set words i w) (i + 1)
-words-written-more {n} {words} {i} w h l e =
-    record {
-      long = length-set words i w ∙ h.long;
-      same = λ k lt.
-          by-eq k i
-          (λ q. rw q (get_or-set_same words i w 0 (rw h.long l) ∙ e))
-          (λ d. get_or-set_other words i k w 0 d ∙ h.same k (omega arith));
-    }
-
 pub words-written-all : {n : ℕ} {words : List ℕ} {i : ℕ} → WordsWritten n words i → page_room ≤ i → words ≡ fresh_words n
 unfolding fresh_words
 words-written-all {n} {words} {i} h l =
