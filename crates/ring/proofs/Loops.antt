@@ -1,12 +1,11 @@
--- What loops keep: the numbers below i are tested, none of them is the one looked for, so many elements are stored. Each at its start, after one
--- turn more, and at its end.
+-- What loops keep: the numbers below i are tested, none of them is the one looked for, so many elements are stored; the one that is found, and one
+-- store more.
 -- Assumes nothing.
-use mathlib.Core.Path.{◌≡◌, refl, ap, ◌∙◌}
-use mathlib.Core.Bool.{Bool, true, false, ◌&&◌}
+use mathlib.Core.Path.{◌≡◌, ap, ◌∙◌}
+use mathlib.Core.Bool.{Bool, true}
 use mathlib.Core.List.{List, [], ◌∷◌, ◌++◌}
 use Prim.Native.Nat.{ℕ, suc, ◌+◌, ◌-◌, ◌<◌}
 use native.Mathlib.Omega.{arith}
-use native.Mathlib.Numerals.{add-one}
 use lib.ListN.{length, set}
 use lib.Seq.{sets}
 use Rattle.std.specs.Prelude.{Some, None}

@@ -18,6 +18,7 @@ fn begin_at(bytes: &[u8], at: usize) -> Coded
 }
 
 // What stands at a place. The bytes are lent whole and the place beside them, since the rule counts places from their start.
+// The byte there is matched as a number: it may be any, and an action has its value in the bytes after it.
 pub fn action_at(bytes: &[u8], at: usize) -> Coded
     ensures { result ≡ coded_at bytes.now at }
 {

@@ -34,7 +34,8 @@ impl Ring {
         (p.0 as usize) * (self.size.slots as usize) + (slot as usize)
     }
 
-    // The place of the record on top of the stack; the first place of an empty stack.
+    // The place of the record on top of the stack; the first place of an empty stack. A place and no Option, since
+    // a change always stores a record: that of an empty stack stores the first as it was.
     pub(crate) fn top_at(&self) -> usize
         ensures { result ≡ top_at self.now.depth }
     {
@@ -50,7 +51,8 @@ impl Ring {
     }
 }
 
-// A record in phase WANT: a new writer's, or, with value 0, that of a place which no writer has.
+// A record in phase WANT: a new writer's, or, with value 0, that of a place which no writer has. A function and
+// no Default, for the value.
 pub(crate) fn wanting(value: u32) -> Writer
     ensures { result ≡ writer value Want }
 {

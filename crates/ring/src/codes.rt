@@ -1,4 +1,5 @@
 // Answers by number: the code of an answer's kind, with each refusal as a kind of its own, and the values in its brackets.
+// A code is a number throughout: so answers lie in the buffers that callers lend, and `numbers_of` says which code is whose.
 ghost use Rattle.std.specs.Prelude.{◌≡◌};
 ghost use Rattle.rules.specs.Codes.{refusal_code, kind, with_one, numbers_of};
 

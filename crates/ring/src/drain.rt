@@ -28,7 +28,8 @@ fn agrees(counts: Counts) -> bool
     counts.handed + counts.overwritten <= counts.committed
 }
 
-// The last answer. Where a Read is still due, the ring is out of shape, and that Read is refused.
+// The last answer. Where a Read is still due, the ring is out of shape, and that Read is refused. `due` is what the loop's test had left, and is kept
+// nowhere.
 fn last_after(due: bool, last: Option<Answer>) -> Option<Answer>
     ensures { result ≡ last_after due last }
 {
@@ -40,7 +41,8 @@ fn last_after(due: bool, last: Option<Answer>) -> Option<Answer>
 }
 
 impl Ring {
-    // The readings of some slots, from slot `from` on, laid in the buffer from `at` on.
+    // The readings of some slots, from slot `from` on, laid in the buffer from `at` on. By places, as `events_from` and `sets`
+    // have them: parts of three arrays side by side would be as many places again.
     fn lay_events(&self, buffer: &mut [u64], at: usize, from: usize, count: usize)
         requires { (at + count ≤ length buffer.old) × (from + count ≤ slot_room) }
         ensures { buffer.new ≡ sets buffer.old at (events_from self.now.numbers self.now.values from count) }

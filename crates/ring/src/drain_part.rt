@@ -15,7 +15,7 @@ pub struct DrainPart<'a> {
     pub last: Option<Answer>,
 }
 
-// The first `count` elements of a buffer.
+// The first `count` elements of a buffer. A function of its own, for its promise: they lie where the buffer does.
 fn prefix<'a>(buffer: &'a mut [u64], count: usize) -> &'a mut [u64]
     requires { count ≤ length buffer.old }
     ensures { (result.now ≡ take count buffer.old) × (result.ref_ptr ≡ buffer.entry.ref_ptr) }
@@ -31,6 +31,7 @@ impl Ring {
         ensures { HandedBack (drain_rule (state_of self) (length buffer.old)) buffer.entry result }
     {
         let f = self.drain_into(buffer);
+        // field by field: the part stands for the count
         let part = prefix(buffer, f.count);
         DrainPart {
             part,

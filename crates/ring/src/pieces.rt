@@ -24,7 +24,8 @@ pub enum Stores {
     Value(usize, u32),
 }
 
-// The top record: its value with the next phase. A popped one is reset.
+// The top record: its value with the next phase. A popped one is reset. Functions of a move or a fetch are no methods of it, since its type is one of
+// crate rules; those that read the ring are methods of the ring.
 pub(crate) fn record_after(m: Move, value: u32) -> Writer
     ensures { result ≡ record_after m value }
 {

@@ -7,7 +7,7 @@ ghost use Rattle.ring.specs.Ring.{state_of};
 use crate::state::Ring;
 use rules::state::{Counts, Receipt, Refusal};
 
-// The receipt of counts that agree, so that no difference is below 0.
+// The receipt of counts that agree, so that no difference is below 0. A function and no From, which could not ask that they agree.
 fn receipt_of(c: Counts) -> Receipt
     requires { counts_fit c ≡ true }
     ensures { result ≡ receipt_of c }
@@ -31,14 +31,7 @@ fn refused_receipt() -> Receipt
 {
     Receipt {
         refusal: Some(Refusal::Shape),
-        begun: 0,
-        taken: 0,
-        handed: 0,
-        overwritten: 0,
-        dropped: 0,
-        waiting: 0,
-        open: 0,
-        complete: false,
+        ..Receipt::default()
     }
 }
 

@@ -69,7 +69,7 @@ impl Ring {
         requires { Reached (state_of self) × (numbers_per_answer * length (decoded bytes.now).actions ≤ length buffer.old) }
         ensures { (replay_outcome result ≡ ran (state_of self) (decoded bytes.now)) × (buffer.new ≡ ran_buffer (state_of self) (decoded bytes.now) buffer.old) }
     {
-        // a cursor over the bytes and a count of the answers laid
+        // A cursor over the bytes and a count of the answers laid: where an action ends is known once it is read.
         let mut at: usize = 0;
         let mut made: usize = 0;
         while let Coded::Whole(action, next) = action_at(bytes, at) {
@@ -83,7 +83,7 @@ impl Ring {
 
     // The actions of `bytes` on the ring of a set-up, up to the first that is unknown or cut: `stop` says where, and the answer is Accepted there too.
     // Their answers are in the buffer lent, NUMBERS_PER_ANSWER numbers each. Refused with SETUP where `fresh` refuses, and with ROOM where the buffer has no
-    // place for the answer of each action (`action_count` says how many there are).
+    // place for the answer of each action (`action_count` says how many there are). Three numbers and no Size, as in `fresh`.
     pub fn replay(pages: u32, slots: u32, mode: u32, bytes: &[u8], buffer: &mut [u64]) -> Replay
         ensures { (replay_outcome result ≡ replay_rule pages slots mode bytes.now buffer.old) × (buffer.new ≡ buffer_rule pages slots mode bytes.now buffer.old) }
     {

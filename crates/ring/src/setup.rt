@@ -12,7 +12,7 @@ use crate::state::{Ring, Step};
 use crate::words::word_of;
 use rules::state::{Answer, Counts, PageNo, Places, ReaderPhase, Refusal, Size};
 
-// The page in the word of page i, in a fresh ring of n pages.
+// The page in the word of page i, in a fresh ring of n pages. That i is one of the 17 is asked of these three alone, for i + 1: no type of its own.
 fn fresh_next(n: u32, i: u32) -> u32
     requires { i ≤ most_pages }
     ensures { result ≡ fresh_next n i }
@@ -58,21 +58,8 @@ impl Ring {
     {
         Ring {
             size,
-            places: Places {
-                reader: PageNo(0),
-                tail: PageNo(0),
-                commit: PageNo(0),
-                index: 0,
-                position: 0,
-            },
-            counts: Counts {
-                begun: 0,
-                taken: 0,
-                committed: 0,
-                handed: 0,
-                overwritten: 0,
-                dropped: 0,
-            },
+            places: Places::default(),
+            counts: Counts::default(),
             depth: 0,
             reader: ReaderPhase::Idle,
             stack: [wanting(0); 4],

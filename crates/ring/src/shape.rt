@@ -1,5 +1,5 @@
 // The test of shape. Each clause has a function of its own. Tests are joined by `&`, since none of them can trap, and a loop goes through all of its
-// places.
+// places. Tests of one piece take it by value, as the rules of their names do, and those of an array or of more are methods.
 ghost use Rattle.std.specs.Prelude.{◌≡◌, ◌≤◌};
 ghost use Rattle.rules.specs.Limits.{most_pages};
 ghost use Rattle.rules.specs.Shape.{size_fits, places_fit, counts_small, counts_fit, pages_fit, held_fits, writer_fits, reader_fits, stack_fits, word_fits, words_fit, used_fit, layout_fits, ring_fits, in_shape};
@@ -19,6 +19,7 @@ pub(crate) fn size_fits(s: Size) -> bool
         & (s.mode <= Ring::STOP)
 }
 
+// By `.0`, here and below: a page is compared with a number of pages, which is no page.
 fn places_fit(p: Places, s: Size) -> bool
     ensures { result ≡ places_fit p s }
 {
@@ -29,6 +30,7 @@ fn places_fit(p: Places, s: Size) -> bool
         & (p.position <= s.slots)
 }
 
+// Six lines, one for each count, as in the rule: an array of them would list them too.
 fn counts_small(c: Counts) -> bool
     ensures { result ≡ counts_small c }
 {
@@ -94,6 +96,7 @@ fn word_fits(w: u32, n: u32) -> bool
     (p.0 <= n) & (flag_in(w) != Ring::BOTH_FLAGS)
 }
 
+// Three loops, alike but for the array that they read, and no `iter().all(..)`: what `all` promises did not prove to be the rules' `all_below`.
 impl Ring {
     fn stack_fits(&self) -> bool
         ensures { result ≡ stack_fits self.now.stack self.now.depth self.now.size }

@@ -36,7 +36,7 @@ pub struct Replay {
     pub ring: Ring,
     // Accepted, or why the replay was refused: an answer, as that of the set-up which it begins with
     pub answer: Answer,
-    // how many actions were made, 0 where the replay was refused before the first (`refused_replay`)
+    // how many actions were made; 0 and no Option where the replay was refused before the first, as `refused_replay` has it, and so for `stop`
     pub made: usize,
     // where they end: the place of the first byte after them, and 0 where the replay was refused before the first
     pub stop: usize,

@@ -12,6 +12,7 @@ use rules::moves::Fetch;
 use rules::state::{Answer, Places, ReaderPhase};
 
 // What the Reads of one turn of a drain leave: those of some Events that stand one after the other, or one Read of another kind.
+// The pieces stand apart as in `Change`: all are decided on the ring as it was.
 #[derive(Clone, Copy, PartialEq, Eq, Debug)]
 pub struct Turn {
     // how many Events, and the place of the first one's slot

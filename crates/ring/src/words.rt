@@ -1,4 +1,5 @@
-// Link words: 4 * (next page) + flag. They are split, joined and searched here and nowhere else.
+// Link words: 4 * (next page) + flag. They are split, joined and searched here and nowhere else. A flag is a
+// number in all of them (`flag_in`).
 ghost use Rattle.std.specs.Prelude.{◌≡◌, ◌≤◌};
 ghost use Rattle.rules.specs.Limits.{most_pages};
 ghost use Rattle.rules.specs.Words.{page_in, flag_in, word_of, links, find_header};

@@ -11,7 +11,7 @@ use crate::words::{flag_in, page_in};
 use rules::moves::Move;
 use rules::state::{Action, Answer, PageNo, Places, Refusal, WriterPhase};
 
-// What follows PROMOTE.
+// What follows PROMOTE. `own` as it stands in the phase.
 fn after_promote(t: PageNo, n: PageNo, own: bool) -> WriterPhase
     ensures { result ≡ after_promote t n own }
 {
@@ -46,7 +46,7 @@ impl Ring {
         }
     }
 
-    // WANT, the tail page full; n and flag are those of its word.
+    // WANT, the tail page full; n and flag are those of its word, and the flag is a number as `flag_in` tells it.
     fn plan_full(&self, n: PageNo, flag: u32) -> Move
         ensures { result ≡ plan_full self.now.size self.now.places self.now.depth n flag }
     {

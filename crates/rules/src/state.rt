@@ -1,14 +1,15 @@
 // The parts of a ring, and what is asked and answered: types with no function, so that each is read in one place.
 
 // The number of a page, 0 to N. A type of its own, so that it is never taken for a reading's number.
-#[derive(Clone, Copy, Debug, PartialEq, Eq)]
+#[derive(Clone, Copy, Debug, Default, PartialEq, Eq)]
 pub struct PageNo(pub u32);
 
 // The number of a reading: the first reading that gets a slot has number 0.
 #[derive(Clone, Copy, Debug, PartialEq, Eq)]
 pub struct ReadingNo(pub u32);
 
-// What a writer does next; t is the tail page that it saw, n the page after it.
+// What a writer does next; t is the tail page that it saw, n the page after it. Two pages and no pair of a type of its own, here, in the reader's
+// phases, in moves and in fetches: t and n are no such pair as p and h, and each rule takes the two apart.
 #[derive(Clone, Copy, Debug, PartialEq, Eq)]
 pub enum WriterPhase {
     Want,
@@ -52,7 +53,7 @@ pub struct Size {
 }
 
 // Where the ring stands: reader page, tail page, commit page with the commit index, and the read position on the reader page.
-#[derive(Clone, Copy, Debug, PartialEq, Eq)]
+#[derive(Clone, Copy, Debug, Default, PartialEq, Eq)]
 pub struct Places {
     pub reader: PageNo,
     pub tail: PageNo,
@@ -62,7 +63,7 @@ pub struct Places {
 }
 
 // The counts. 64 bits wide, since a count that a step takes past 4,294,967,295 is kept as it is.
-#[derive(Clone, Copy, Debug, PartialEq, Eq)]
+#[derive(Clone, Copy, Debug, Default, PartialEq, Eq)]
 pub struct Counts {
     pub begun: u64,
     pub taken: u64,
@@ -134,7 +135,7 @@ pub enum Action {
 }
 
 // The receipt. A refused receipt says why, and is else all zero and not complete.
-#[derive(Clone, Copy, Debug, PartialEq, Eq)]
+#[derive(Clone, Copy, Debug, Default, PartialEq, Eq)]
 pub struct Receipt {
     pub refusal: Option<Refusal>,
     pub begun: u64,

@@ -2,14 +2,14 @@
 -- Assumes nothing.
 use mathlib.Core.Path.{◌≡◌, sym, ◌∙◌}
 use mathlib.Core.List.{List}
-use Prim.Native.Nat.{ℕ, ◌+◌, ◌≤◌, ◌<◌}
+use Prim.Native.Nat.{ℕ, ◌≤◌, ◌<◌}
 use native.Mathlib.Omega.{arith}
-use lib.ListN.{length, get_or, set, length-set}
-use lib.Seq.{ext_get_or, get_or-set_same, get_or-set_other}
+use lib.ListN.{length, get_or}
+use lib.Seq.{ext_get_or}
 use Rattle.rules.specs.Limits.{page_room}
 use Rattle.rules.specs.Lists.{tabulate}
 use Rattle.rules.specs.SetUp.{fresh_word, fresh_words}
-use Rattle.rules.proofs.Lists.{by-eq, length-tabulate, get_d_tabulate}
+use Rattle.rules.proofs.Lists.{length-tabulate, get_d_tabulate}
 
 -- the first i words are those of a fresh ring
 pub record WordsWritten (n : ℕ) (words : List ℕ) (i : ℕ) : Type 0 where
