@@ -1,4 +1,5 @@
-// Actions as bytes, one after the other: what stands at a place, and how many there are.
+// Actions as bytes, one after the other: what stands at a place, and how many there are. The bytes are lent whole and a place
+// beside them, since the rules count places from their start.
 ghost use Rattle.std.specs.Prelude.{◌≡◌, ◌+◌, ◌<◌, length};
 ghost use Rattle.rules.specs.Actions.{begin_at, coded_at, decoded_from};
 
@@ -17,8 +18,7 @@ fn begin_at(bytes: &[u8], at: usize) -> Coded
     Coded::Whole(Action::Begin(value), at + Action::BEGIN_LENGTH)
 }
 
-// What stands at a place. The bytes are lent whole and the place beside them, since the rule counts places from their start.
-// The byte there is matched as a number: it may be any, and an action has its value in the bytes after it.
+// What stands at a place. The byte there is matched as a number: it may be any, and an action has its value in the bytes after it.
 pub fn action_at(bytes: &[u8], at: usize) -> Coded
     ensures { result ≡ coded_at bytes.now at }
 {

@@ -2,7 +2,8 @@
 use rules::state::{Answer, Counts, Places, ReaderPhase, Size, Writer};
 
 // The ring. Arrays have room for 17 pages of 16 slots; slot s of page p stands at p * S + s. Words and used, numbers and values lie in arrays of their
-// own, and the stack keeps its depth beside it, since the rules' State has them so and `state_of` tells each field by itself.
+// own, and the stack keeps its depth beside it, since the rules' State has them so and `state_of` tells each field by itself. What a method asks of a
+// ring stands at the method: a ring in shape has it, and no invariant of the type can say it, since a ring that is handed in may be out of shape.
 #[derive(Clone, Copy, PartialEq, Eq, Debug)]
 pub struct Ring {
     pub size: Size,

@@ -28,7 +28,7 @@ pub struct Turn {
     pub stores: Stores,
 }
 
-// The places before the last of some Reads, of which all but the last are Events.
+// The places before the last of some Reads, of which all but the last are Events. This and the next are no methods: their types are those of crate rules.
 fn places_before(places: Places, count: usize) -> Places
     requires { (places.position ≤ most_slots) × (count ≤ most_slots) }
     ensures { result ≡ places_before places count }

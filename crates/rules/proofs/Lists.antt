@@ -108,7 +108,7 @@ module _ (f : ℕ → ℕ) where
       (λ q. rw q (get_or-append_seam (tabulate k f) (f k) [] 0 ∙ ap f (sym l)))
       (λ n. get_or-append (tabulate k f) (f k ∷ []) 0 i (omega arith) ∙ get_d_tabulate k i (omega arith))
 
--- ---- a list of zeros
+-- ---- a list of zeros, at any place: the library's get_or-replicate is of the places below its length
 
 pub zeros : (k i : ℕ) → get_or {A = ℕ} (replicate k 0) i 0 ≡ 0
 zeros zero i = refl

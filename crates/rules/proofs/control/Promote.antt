@@ -35,10 +35,7 @@ after-ok : (words used : List ℕ) (N S : ℕ) (P : ℕ → ℕ) (pc pt : ℕ) (
 after-ok words used N S P pc pt true t n r = r
 after-ok words used N S P pc pt false t n r = r
 
--- ---- (t, n) of the record, where it is the owner or above it
-
-owner-pages : (a b t n : ℕ) (own : Bool) → Promote t n own ≡ Promote a b true → (t ≡ a) × (n ≡ b)
-owner-pages a b t n own q = (page-once cc, page-once cc)
+-- ---- (t, n) of the record, where it is above the owner
 
 above-pages : (a b t n : ℕ) (own : Bool) → Above a b (Promote t n own) → (t ≡ a) × (n ≡ b)
 above-pages a b t n true q = absurd q
@@ -93,7 +90,9 @@ module _ {s : State} {L : ℕ → ℕ} {pc pt : ℕ} (v : Control s L pc pt) (de
     pages : (t ≡ P (N s - 1)) × (n ≡ P (N s))
     pages =
         by-eq no-head.a (top_at s)
-        (λ q. owner-pages _ _ t n own (sym phase-is ∙ ap (phase_at s.stack) (sym q) ∙ no-head.owner))
+        (λ q.
+        let same = sym phase-is ∙ ap (phase_at s.stack) (sym q) ∙ no-head.owner in
+        (page-once cc, page-once cc))
         (λ q. above-pages _ _ t n own (subst (Above (P (N s - 1)) (P (N s))) phase-is (no-head.above (top_at s) (omega (arith, no-head.below)) (omega arith))))
 
     n-newest : n ≡ P (N s)
