@@ -42,6 +42,7 @@ pub record Numbers (numbers used : List ℕ) (N S R : ℕ) (P : ℕ → ℕ) (a 
   pub below : (p j : ℕ) → p ≤ N → j < get_or used p 0 → get_or numbers (cell S p j) 0 < taken
 
 -- uR, uT and uC are the used of the reader, tail and commit page
+-- A step makes this record anew, field by field: `record b { .. }` keeps the type of b, and this type names what the step changes.
 pub record Sums (S uR uT uC index position taken committed handed overwritten pc pt a r0 gap : ℕ) : Type 0 where
   -- taken and committed, by the formula of a slot's number, at the end of the tail page and at the commit position
   pub taken_is : taken + S ≡ S * (a + pt) + uT
@@ -143,6 +144,7 @@ abbrev pub given_value : List ReadEvent → ℕ → ℕ
 given_value events k = (get_or events k no_event).value
 
 -- Each number below r0 + position was handed out or lost, not both; those of the gap were lost; no other number was either.
+-- A step makes this record anew, field by field: `record b { .. }` keeps the type of b, and this type names what the step changes.
 pub record Past (events : List ReadEvent) (lost : List ℕ) (readings : List Numbered) (handed overwritten r0 position uR gap : ℕ) : Type 0 where
   -- the Events: how many, up to where, in which order, with which values
   pub handed_is : length events ≡ handed
@@ -184,6 +186,7 @@ pub record Recorded (events : List ReadEvent) (overwritings : List Overwriting) 
   pub ordered : Ordered readings taken committed
   pub rightly : All RightlyTaken overwritings
 
+-- A step makes this record anew, field by field: `record b { .. }` keeps the type of b, and this type names what the step changes.
 pub record Accounts (s : State) (h : History) (L : ℕ → ℕ) (pc pt a r0 gap : ℕ) : Type 0 where
   pub contents : Contents s.used s.numbers s.values (N s) (S s) (R s) (place (R s) L) a r0 s.counts.taken
   pub sums : Sums (S s) (used_of s (R s)) (used_of s (T s)) (used_of s (C s)) s.places.index s.places.position s.counts.taken s.counts.committed

@@ -20,6 +20,7 @@ AimFits N (phase.Push t n) = Unit {0}
 AimFits N (phase.Held p slot) = Unit {0}
 AimFits N phase.Filled = Unit {0}
 
+-- A step makes this record anew, field by field: `record b { .. }` keeps the type of b, and this type names what the step changes.
 pub record Bounds (N mode begun taken R : ℕ) (words numbers : List ℕ) (stack : List Writer) (depth : ℕ) : Type 0 where
   pub mode_fits : mode ≤ stop_mode
   pub begun_fits : begun ≤ most_count

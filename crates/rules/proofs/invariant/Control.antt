@@ -151,6 +151,7 @@ OrderIn s L pc pt = Order s.used (N s) (S s) (T s) (C s) (place (R s) L) pc pt
 abbrev pub ReaderIn : State → ℕ → Type 0
 ReaderIn s pc = ReaderOk s.words (N s) (R s) pc s.reader
 
+-- A step makes this record anew, field by field: `record b { .. }` keeps the type of b, and this type names what the step changes.
 pub record Control (s : State) (L : ℕ → ℕ) (pc pt : ℕ) : Type 0 where
   pub links : Links s.words (N s) (R s) L
   pub order : OrderIn s L pc pt

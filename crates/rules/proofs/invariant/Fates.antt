@@ -30,6 +30,7 @@ pub record Dropper (droppers : List BegunWriter) (writer : ℕ) : Type 0 where
   pub below : k < length droppers
   pub is : (worker_at droppers k).nth ≡ writer
 
+-- A step makes this record anew, field by field: `record b { .. }` keeps the type of b, and this type names what the step changes.
 pub record Fates (begins : ℕ) (working : List BegunWriter) (readings : List Numbered) (droppers : List BegunWriter) (E : ℕ → ℕ) (depth taken dropped begun : ℕ) : Type 0 where
   pub begun_is : begins ≡ begun
   pub dropped_is : length droppers ≡ dropped
