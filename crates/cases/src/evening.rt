@@ -29,7 +29,8 @@ fn in_order(part: &[u64], from: u64) -> u64 {
         .count() as u64
 }
 
-// How many elements from `count` on are as they were. A count and no slice: a drain's part is borrowed from the buffer, and only how long it was is left.
+// How many elements from `count` on are as they were. A count and no slice: that a drain fills at most what it was lent did not prove here, as a slice
+// from `count` on would ask.
 pub(crate) fn kept(buffer: &[u64; LENT], count: usize) -> u64 {
     buffer
         .iter()
@@ -73,7 +74,7 @@ impl Evening {
         }
     }
 
-    // As in the program of random lists: the two share the ring's libraries alone, and these count no drains.
+    // Its twin is in the program of random lists: programs share libraries alone, and `text` counts answers, of which no last answer is none.
     fn count_last(&mut self, last: Option<Answer>) {
         match last {
             None => self.none = self.none.wrapping_add(1),

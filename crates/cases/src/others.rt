@@ -4,10 +4,10 @@ use ring::{Action, Ring};
 
 fn k12() {
     text::section(b"K12");
-    fresh(1, 1, Ring::OVERWRITE);
-    fresh(17, 1, Ring::OVERWRITE);
-    fresh(2, 0, Ring::OVERWRITE);
-    fresh(2, 1, Ring::OVERWRITE);
+    let pairs = [(1, 1), (17, 1), (2, 0), (2, 1)];
+    for (pages, slots) in pairs {
+        fresh(pages, slots, Ring::OVERWRITE);
+    }
     fresh(16, 16, Ring::STOP);
 }
 

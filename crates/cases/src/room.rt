@@ -16,7 +16,7 @@ fn replay_lines(text: &[u8], bytes: &[u8], n: usize)
     text::number_line(b"kept", kept(&buffer, 0));
 }
 
-// 65 bytes 1 are thirteen Begins of value 16843009; a byte 9 is no action.
+// 65 bytes 1 are thirteen Begins of value 16843009; a byte 9 is no action. Calls and no table: that n is at most 64 is seen where it is called.
 pub(crate) fn run() {
     text::section(b"Replays of 13 Begins in little room");
     let mut bytes = [1u8; 66];

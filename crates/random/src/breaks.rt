@@ -178,7 +178,8 @@ fn over_rest(whole: u64, part: u64) -> u64 {
     whole.wrapping_sub(part).wrapping_add(1)
 }
 
-// What each break is. A match and no table of closures: they would differ in what they take.
+// What each break is. A match and no table of closures: a row would be as long as an arm, and take three
+// arguments where most need one.
 pub(crate) fn break_ring(s: &mut Generator, setup: Setup, kind: Break, ring: &mut Ring) {
     let slots = setup.size.slots;
     let c = ring.counts;

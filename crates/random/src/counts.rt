@@ -59,7 +59,7 @@ fn all_committed(s: &mut Generator) -> Counts {
     }
 }
 
-// A draw chooses: with closures in a table it would choose one of them.
+// A draw chooses one of four functions: a table would list the four too, and want an index.
 pub(crate) fn draw_counts(s: &mut Generator) -> Counts {
     match s.below(4) {
         0 => small(s),

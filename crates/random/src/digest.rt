@@ -68,6 +68,10 @@ impl Digest {
         self.fold(low).fold(high)
     }
 
+    fn all<const N: usize>(self, counts: [u64; N]) -> Digest {
+        counts.iter().fold(self, |h, count| h.count(*count))
+    }
+
     pub(crate) fn answer(self, answer: Answer) -> Digest {
         let numbers = ring::answer_numbers(answer);
         // the values are below 2^32: a count that is told stood in shape
@@ -88,18 +92,20 @@ impl Digest {
     pub(crate) fn buffer(self, count: usize, buffer: &[u64; 40]) -> Digest {
         // the count is at most 40: no more are lent
         let h = self.fold(((count as u64) % TWO_32) as u32);
-        buffer.iter().fold(h, |h, element| h.count(*element))
+        h.all(*buffer)
     }
 
     pub(crate) fn receipt(self, r: Receipt) -> Digest {
         self.fold(r.refusal.map_or(0, |why| why.number()))
-            .count(r.begun)
-            .count(r.taken)
-            .count(r.handed)
-            .count(r.overwritten)
-            .count(r.dropped)
-            .count(r.waiting)
-            .count(r.open)
+            .all([
+                r.begun,
+                r.taken,
+                r.handed,
+                r.overwritten,
+                r.dropped,
+                r.waiting,
+                r.open,
+            ])
             .fold(u32::from(r.complete))
     }
 
@@ -108,12 +114,14 @@ impl Digest {
     }
 
     fn counts(self, c: Counts) -> Digest {
-        self.count(c.begun)
-            .count(c.taken)
-            .count(c.committed)
-            .count(c.handed)
-            .count(c.overwritten)
-            .count(c.dropped)
+        self.all([
+            c.begun,
+            c.taken,
+            c.committed,
+            c.handed,
+            c.overwritten,
+            c.dropped,
+        ])
     }
 
     fn writer(self, w: Writer) -> Digest {
@@ -140,7 +148,7 @@ impl Digest {
             .fold(self, |h, (word, used)| h.fold(*word).fold(*used))
     }
 
-    // The digests of the slots' numbers and values, each in two halves.
+    // The digests of the slots' numbers and values, each in two halves. By index: a zip of four halves would nest its pairs.
     fn slots(self, numbers: &[u32; 272], values: &[u32; 272]) -> Digest {
         let mut a = Digest::EMPTY;
         let mut b = Digest::EMPTY;

@@ -15,6 +15,7 @@ pub(crate) struct Lasts {
 }
 
 impl Lasts {
+    // No derived Default: the empty tally is that of `text`.
     pub(crate) fn new() -> Lasts {
         Lasts {
             none: 0,
@@ -22,7 +23,8 @@ impl Lasts {
         }
     }
 
-    // One more last answer, or one more drain that has none.
+    // One more last answer, or one more drain that has none. Its twin is in the program of cases: programs share libraries alone, and `text` counts
+    // answers, of which no last answer is none.
     fn count(&mut self, last: Option<Answer>) {
         match last {
             None => self.none = self.none.wrapping_add(1),

@@ -31,6 +31,8 @@ pub(crate) struct States {
     ghost few: { of_break ≤ 1000 },
 }
 
+// What `run` keeps between its calls is any state of it, so that it may be called in each: `IsAlwaysCallable` speaks of the first alone. A group in shape
+// has a size of its own and no break, so that there are two loops.
 impl States {
     fn in_shape<F: FnMut(Digest, Generator, Ring) -> Digest>(self, mut run: F)
         requires { (state : F) (h : _) (s : _) (ring : _) → F.pre state h s ring }

@@ -4,7 +4,6 @@ use crate::draws::{Generator, Setup};
 use crate::writers::{draw_reader, draw_stack};
 use ring::{PageNo, Ring};
 use rules::state::Places;
-use std::array;
 
 // The reader page one time in four, else any page, so that the cases in which they are one come often.
 fn reader_or_page(s: &mut Generator, setup: Setup, reader: PageNo) -> PageNo {

@@ -23,6 +23,7 @@ pub enum Form {
 pub struct Told<'a> {
     name: &'a [u8],
     bytes: &'a [u8],
+    // the buffer lent, of which `made` answers were laid; beside it, since the buffer is not known here to have as many
     answers: &'a [u64],
     made: usize,
     covers: Covers,

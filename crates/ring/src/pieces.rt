@@ -154,7 +154,7 @@ impl Ring {
     }
 }
 
-// ---- Read
+// ---- Read; `read_handed` and `read_places` are functions as `record_after` is
 
 impl Ring {
     // The answer, at a read position of the reader page. An Event tells the slot there.

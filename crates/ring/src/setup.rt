@@ -41,6 +41,7 @@ fn fresh_word(n: u32, i: u32) -> u32
     word_of(PageNo(next), flag) as u32
 }
 
+// A `for` and no `from_fn`: what that promises did not prove to be the rules' `tabulate`.
 fn fresh_words(n: u32) -> [u32; 17]
     ensures { result ≡ fresh_words n }
 {

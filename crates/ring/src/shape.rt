@@ -1,5 +1,5 @@
 // The test of shape. Each clause has a function of its own. Tests are joined by `&`, since none of them can trap, and a loop goes through all of its
-// places. Tests of one piece take it by value, as the rules of their names do, and those of an array or of more are methods.
+// places. Tests of a piece take it by value, and the size, as the rules of their names do, and those of an array or of more are methods.
 ghost use Rattle.std.specs.Prelude.{◌≡◌, ◌≤◌};
 ghost use Rattle.rules.specs.Limits.{most_pages};
 ghost use Rattle.rules.specs.Shape.{size_fits, places_fit, counts_small, counts_fit, pages_fit, held_fits, writer_fits, reader_fits, stack_fits, word_fits, words_fit, used_fit, layout_fits, ring_fits, in_shape};

@@ -1,5 +1,5 @@
 // The receipt as lines of key=value, for scripts. They are joined by `&`: a line after one that could not be written is tried all the same. A row of a
-// table would say no less than a call, so that there is none.
+// table would be no shorter than a call.
 use crate::covers::Covers;
 use crate::file_names::name_line;
 use crate::put::{Line, print_line};

@@ -45,7 +45,8 @@ pub fn sum_of_six(r: Receipt) -> u64
     r.handed.wrapping_add(lost(r)).wrapping_add(remaining(r))
 }
 
-// ---- the lines, joined by `&`: one after a line that could not be written is tried all the same. A call and no row of a table: it says no more
+// ---- the lines, joined by `&`: one after a line that could not be written is tried all the same. A row of a table would be no
+// shorter than a call.
 
 // A count: what it is of, and the name that the rules have for it.
 fn count_line(text: &str, count: u64, name: &str) -> bool {
@@ -82,8 +83,8 @@ fn ring_line(size: Size) -> bool {
     };
     print_line(format_args!(
         "    ring      {} of {}, {mode}",
-        Many(size.pages as u64, "page"),
-        Many(size.slots as u64, "slot")
+        Many(u64::from(size.pages), "page"),
+        Many(u64::from(size.slots), "slot")
     ))
 }
 
