@@ -68,6 +68,7 @@ impl Digest {
         self.fold(low).fold(high)
     }
 
+    // As `numbers`, of counts: each is folded as two numbers, so that one function for both would be handed how.
     fn all<const N: usize>(self, counts: [u64; N]) -> Digest {
         counts.iter().fold(self, |h, count| h.count(*count))
     }
