@@ -93,6 +93,7 @@ fn without_slots(setup: Setup, ring: &mut Ring) {
     ring.depth = 0;
 }
 
+// This and the two after it are stores at a page, each with draws of its own: what they share is the line that draws the page.
 fn break_word(s: &mut Generator, setup: Setup, ring: &mut Ring) {
     let at = s.page(setup).0 as usize;
     ring.words[at] = 4 * s.no_page(setup).0 + s.below(3);
