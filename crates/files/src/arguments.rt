@@ -1,5 +1,5 @@
 // The program's arguments, which are any bytes.
-ghost use Rattle.std.specs.Prelude.{length};
+ghost use Rattle.std.specs.Prelude.{◌≡◌, length};
 ghost use Rattle.io.specs.Counts.{IsPrefixLen};
 
 use std::env::{Env, FillError};
@@ -7,11 +7,12 @@ use std::env::{Env, FillError};
 // An argument's bytes, in the buffer that is lent. One that is missing or longer than the buffer is an empty name and no None: no file has that name, and
 // what is wrong is told by the name all the same. Argument 0 is the program's own name.
 pub fn argument<'a, R: Env>(rt: &R, i: usize, buffer: &'a mut [u8]) -> &'a [u8]
-    ensures { IsPrefixLen (length result.now) buffer.old }
+    ensures length { IsPrefixLen (length result.now) buffer.old }
+    ensures place { result.ref_ptr ≡ buffer.entry.ref_ptr }
 {
     match rt.arg(i, buffer) {
         Ok(count) => &buffer[..count],
-        Err(_) => &[],
+        Err(_) => &buffer[..0],
     }
 }
 

@@ -1,5 +1,5 @@
 // The bytes of a file, or of standard input.
-ghost use Rattle.std.specs.Prelude.{length, IfOk};
+ghost use Rattle.std.specs.Prelude.{◌≡◌, length, IfOk};
 ghost use Rattle.io.specs.Counts.{IsPrefixLen};
 
 use crate::links::open_link;
@@ -60,7 +60,8 @@ pub fn read_file<'a, R: Files + Input>(
     name: &[u8],
     bytes: &'a mut [u8],
 ) -> Result<&'a [u8], Unreadable>
-    ensures { IfOk result (λ read. IsPrefixLen (length read.now) bytes.old) }
+    ensures length { IfOk result (λ read. IsPrefixLen (length read.now) bytes.old) }
+    ensures place { IfOk result (λ read. read.ref_ptr ≡ bytes.entry.ref_ptr) }
 {
     match read_named(rt, argument, name, bytes) {
         Ok(count) => Ok(&bytes[..count]),

@@ -15,7 +15,7 @@ fn numbers_of(answer: &[u64; NUMBERS_PER_ANSWER]) -> Numbers {
 
 // A line for each action made, with its answer, by its number and its place. The bytes are walked again, beside the answers: as many whole actions stand
 // there as were made. A place and no rest of the bytes: it is printed, and the ring's own reader of actions takes it.
-pub fn action_lines<F: Fn(usize, usize, Action, Numbers) -> bool>(
+pub(crate) fn action_lines<F: Fn(usize, usize, Action, Numbers) -> bool>(
     bytes: &[u8],
     answers: &[u64],
     made: usize,

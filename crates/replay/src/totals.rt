@@ -72,7 +72,7 @@ impl Totals {
     }
 
     // The last section: how many traces there are, of all and of each kind, in the line that a form has for it.
-    pub fn section<F: FnOnce(u64, u64, u64, u64, u64) -> bool>(self, line: F) -> bool
+    pub(crate) fn section<F: FnOnce(u64, u64, u64, u64, u64) -> bool>(self, line: F) -> bool
         requires { F.IsAlwaysCallable line }
     {
         let parted = text::section_break();

@@ -33,13 +33,14 @@ pub record Moves (P : Move → Type 0) (depth : ℕ) : Type 0 where
   pub filled : P (plan_filled depth)
 
 module _ (P : Move → Type 0) (s : State) (m : Moves P s.depth) where
+  -- each by `search`, and none named: so it holds of a rule with another case too, and such a rule is refused where it is false
   full : (n : PageNo) (flag : ℕ) → P (plan_full s.size s.places s.depth n flag)
   full n flag =
-      by_cond P (same_page s.places.tail s.places.reader) (λ e. m.looked _) (λ e.
-      by_cond P (same_page n s.places.commit) (λ e. m.drop) (λ e.
-      by_cond P (eqb flag header_flag && reader_on_commit s.places) (λ e. m.drop) (λ e.
-      by_cond P (eqb flag header_flag && eqb s.size.mode stop_mode) (λ e. m.drop) (λ e.
-      by_cond P (eqb flag header_flag || eqb flag update_flag) (λ e. m.looked _) (λ e. m.looked _)))))
+      by_cond P (same_page s.places.tail s.places.reader) (λ e. search (m.looked, m.drop)) (λ e.
+      by_cond P (same_page n s.places.commit) (λ e. search (m.looked, m.drop)) (λ e.
+      by_cond P (eqb flag header_flag && reader_on_commit s.places) (λ e. search (m.looked, m.drop)) (λ e.
+      by_cond P (eqb flag header_flag && eqb s.size.mode stop_mode) (λ e. search (m.looked, m.drop)) (λ e.
+      by_cond P (eqb flag header_flag || eqb flag update_flag) (λ e. search (m.looked, m.drop)) (λ e. search (m.looked, m.drop))))))
 
   promoted : (found : Option (PageNo × PageNo)) (n : PageNo) (next : WriterPhase) → P (promote_by found n next)
   promoted (Some (p, h)) n next = m.standing next
