@@ -97,7 +97,7 @@ impl Digest {
     }
 
     pub(crate) fn receipt(self, r: Receipt) -> Digest {
-        self.fold(r.refusal.map_or(0, |why| why.number()))
+        self.fold(r.refusal)
             .all([
                 r.begun,
                 r.taken,

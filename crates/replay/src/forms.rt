@@ -1,7 +1,7 @@
 // A trace in each of the forms: text, csv, receipt and plain.
 use crate::print::action_lines;
 use crate::totals::{Kind, Totals};
-use ring::{Answer, Receipt, Refusal};
+use ring::{Answer, Receipt};
 use rules::state::Size;
 use text::Covers;
 
@@ -31,11 +31,11 @@ pub struct Told<'a> {
     receipt: Receipt,
 }
 
-// A trace's refusal, if it was refused.
-fn refusal_of(answer: Answer) -> Option<Refusal> {
+// The number of a trace's refusal, 0 for none: so it is printed.
+fn refusal_of(answer: Answer) -> u32 {
     match answer {
-        Answer::Refused(why) => Some(why),
-        _ => None,
+        Answer::Refused(why) => why.number(),
+        _ => 0,
     }
 }
 

@@ -4,9 +4,9 @@
 -- (Shape), the table of refusals (Listed) with the plain ring, and how actions, answers and events stand in bytes and buffers (Actions, Replay,
 -- Drain).
 -- Assumes nothing.
-use Rattle.std.specs.Prelude.{◌≡◌, true, ◌≢◌, List, [], ◌∷◌, ◌++◌, ℕ, length, None}
+use Rattle.std.specs.Prelude.{◌≡◌, true, ◌≢◌, List, [], ◌∷◌, ◌++◌, ℕ, length}
 use Rattle.std.specs.Borrow.{Bor, MutBor}
-use Rattle.rules.specs.Answers.{told, refusal_or_none}
+use Rattle.rules.specs.Answers.{told}
 use Rattle.rules.specs.Shape.{in_shape}
 use Rattle.rules.specs.SetUp.{plain_ring}
 use Rattle.rules.specs.Listed.{listed, listed_receipt, listed_set_up, zeros}
@@ -53,7 +53,7 @@ module _ (p : Promises) where
     pub write : (r : Ring) (s : Step) → p.write r s → StepAsListed r (listed (state_of r) action.Write) s
     pub read : (r : Ring) (s : Step) → p.read r s → StepAsListed r (listed (state_of r) action.Read) s
     pub act : (r : Ring) (a : Action) (s : Step) → p.act r a s → StepAsListed r (listed (state_of r) a) s
-    pub receipt : (r : Ring) (c : Receipt) → p.receipt r c → refusal_or_none c.refusal ≡ listed_receipt (state_of r)
+    pub receipt : (r : Ring) (c : Receipt) → p.receipt r c → c.refusal ≡ listed_receipt (state_of r)
     pub zero : (r : Ring) (c : Receipt) → p.receipt r c → listed_receipt (state_of r) ≢ 0 → c ≡ zeros
     pub set_up : (pages slots mode : ℕ) (s : Step) → p.fresh pages slots mode s → (told s.answer).refusal ≡ listed_set_up pages slots mode
     pub plain : (pages slots mode : ℕ) (s : Step) → p.fresh pages slots mode s → listed_set_up pages slots mode ≢ 0 → state_of s.ring ≡ plain_ring
@@ -67,7 +67,7 @@ module _ (p : Promises) where
     pub complete : CompleteClaim c r
     pub shape : in_shape (state_of last) ≡ true
     pub unbroken : (next : Call) → Gives p last next → refusal_in next ≢ 1
-    pub receipt : c.refusal ≡ None
+    pub receipt : c.refusal ≡ 0
 
   -- "It starts from the ring that an accepted set-up gives"
   pub record SetUp (pages slots mode : ℕ) (first : Ring) : Type 0 where

@@ -13,7 +13,7 @@ fn receipt_of(c: Counts) -> Receipt
     ensures { result ≡ receipt_of c }
 {
     Receipt {
-        refusal: None,
+        refusal: 0,
         begun: c.begun,
         taken: c.taken,
         handed: c.handed,
@@ -30,7 +30,7 @@ fn refused_receipt() -> Receipt
     ensures { result ≡ refused_receipt }
 {
     Receipt {
-        refusal: Some(Refusal::Shape),
+        refusal: Refusal::Shape.number(),
         ..Receipt::default()
     }
 }

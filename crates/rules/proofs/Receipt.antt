@@ -1,11 +1,10 @@
 -- Every receipt adds up, whatever the state: of one in shape by the inequalities of its counts, of any other because all is 0.
 -- Assumes nothing.
-use mathlib.Core.Path.{◌≡◌, refl, ap}
+use mathlib.Core.Path.{refl}
 use Prim.Native.Nat.{◌+◌, ◌≤◌}
 use native.Mathlib.Omega.{arith}
 use borrow.Author.Tests.{eqb-true, eq-eqb}
 use Rattle.rules.specs.Limits.{most_count}
-use Rattle.rules.specs.Answers.{refusal_or_none}
 use Rattle.rules.specs.Shape.{in_shape}
 use Rattle.rules.specs.Receipt.{receipt_of, refused_receipt, AddsUp, ReceiptsAddUp}
 use Rattle.rules.specs.declared.state.Counts.{Counts}
@@ -37,7 +36,7 @@ refused-adds-up =
       taken = refl;
       small = omega arith;
       complete = λ z e. refl;
-      none = λ z e. let one : 1 ≡ 0 = ap refusal_or_none z in absurd (omega (arith, one));
+      none = λ z e. absurd (omega (arith, z));
     }
 
 pub receipts-add-up : ReceiptsAddUp

@@ -1,7 +1,7 @@
 -- Answers: the number that a refusal has, the values that an answer tells, and what an action gives back. "Refusals by number"; "Where an
 -- answer is an enum, a definition gives this paper's number and values for each case of the enum, and the promises use that definition."
 -- Assumes nothing.
-use Rattle.std.specs.Prelude.{List, [], ◌∷◌, ℕ, Option, Some, None}
+use Rattle.std.specs.Prelude.{List, [], ◌∷◌, ℕ}
 use Rattle.rules.specs.State.{State}
 use Rattle.rules.specs.declared.state.Refusal.{Refusal}
 use Rattle.rules.specs.declared.state.Refusal.TheVariants.{Shape, Depth, Nobody, Worn, SetUp, Mark, Version, Sizes, Action, Room}
@@ -21,11 +21,6 @@ refusal_number Version = 7
 refusal_number Sizes = 8
 refusal_number Action = 9
 refusal_number Room = 10
-
--- the same of what may be refused: 0 where it is not
-abbrev pub refusal_or_none : Option Refusal → ℕ
-refusal_or_none None = 0
-refusal_or_none (Some why) = refusal_number why
 
 -- what an answer tells: the number of a refusal, 0 where nothing is refused, and the values in the answer's brackets, in their order
 pub record Told : Type 0 where

@@ -2,7 +2,7 @@
 -- A case is a set-up and rows; a row is some actions, their answers, and what is said of the ring after them. The table holds if it does
 -- not change when each answer and each fact in it is replaced by what the rules give.
 -- Assumes nothing.
-use Rattle.std.specs.Prelude.{◌≡◌, false, List, [], ◌∷◌, ℕ, ◌+◌, take, None}
+use Rattle.std.specs.Prelude.{◌≡◌, false, List, [], ◌∷◌, ℕ, ◌+◌, take}
 use Rattle.rules.specs.State.{reading}
 use Rattle.rules.specs.Answers.{Outcome}
 use Rattle.rules.specs.SetUp.{fresh_rule}
@@ -130,7 +130,7 @@ k1_to_k8 =
     ∷ row (Write ∷ Write ∷ []) (Filled ∷ Committed 3 ∷ []) []
     ∷ row (Read ∷ Read ∷ []) (Found ∷ Prepared ∷ []) (Words (8 ∷ 9 ∷ 1 ∷ []) ∷ [])
     ∷ row (Read ∷ []) (Swapped ∷ []) (Words (8 ∷ 9 ∷ 4 ∷ []) ∷ [])
-    ∷ row (Read ∷ []) (Event (reading 2) 72 ∷ []) (ReceiptIs (receipt None 3 3 2 1 0 0 0 false) ∷ [])
+    ∷ row (Read ∷ []) (Event (reading 2) 72 ∷ []) (ReceiptIs (receipt 0 3 3 2 1 0 0 0 false) ∷ [])
     ∷ [])
 
 -- "Each from fresh again"
@@ -155,7 +155,7 @@ k10 A B C =
     []
     -- E3: "K10 now ends with commit (page 1, index 1), committed 2, answer still Dropped"
     ∷ row (Write ∷ []) (Dropped ∷ [])
-    (DepthIs 0 ∷ CommitAt 1 1 ∷ CommittedIs 2 ∷ ReceiptIs (receipt None 3 2 0 0 1 2 0 false) ∷ [])
+    (DepthIs 0 ∷ CommitAt 1 1 ∷ CommittedIs 2 ∷ ReceiptIs (receipt 0 3 2 0 0 1 2 0 false) ∷ [])
     ∷ [])
 
 unfoldable pub k11 : ℕ → ℕ → ℕ → ℕ → ℕ → Case

@@ -1,7 +1,7 @@
 -- Demand 3: what holds after every list of actions, one named field for each part of the claim; and what it means that a receipt says complete. Section
 -- "Receipt", from "Demand 3 tells a reading's place" on. A run r has the ring after the list, r.now, and what the list did, r.past.
 -- Assumes nothing.
-use Rattle.std.specs.Prelude.{All, ◌≡◌, ◌≢◌, ◌⊎◌, Bool, true, false, cond, List, [], ◌∷◌, ℕ, zero, suc, ◌+◌, ◌≤◌, ◌<◌, eqb, length, get_or, None}
+use Rattle.std.specs.Prelude.{All, ◌≡◌, ◌≢◌, ◌⊎◌, Bool, true, false, cond, List, [], ◌∷◌, ℕ, zero, suc, ◌+◌, ◌≤◌, ◌<◌, eqb, length, get_or}
 use Rattle.rules.specs.Limits.{header_flag, update_flag}
 use Rattle.rules.specs.State.{word_at, used_at, number_at, value_at, top, State}
 use Rattle.rules.specs.Words.{page_in, flag_in}
@@ -241,7 +241,7 @@ Complete r = CompleteClaim (receipt_rule r.now) r
 pub record Sound (r : State) : Type 0 where
   pub shape : in_shape r ≡ true
   pub unbroken : (a : Action) → (act r a).tells.refusal ≢ 1
-  pub receipt : (receipt_rule r).refusal ≡ None
+  pub receipt : (receipt_rule r).refusal ≡ 0
   -- demand 1, of this state
   pub listed : AsListed r
 

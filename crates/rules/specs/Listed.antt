@@ -1,18 +1,16 @@
 -- Demand 1: every action, receipt and set-up is refused just as the table lists it, and otherwise not. Of every state, in shape or not, reached or not.
--- "Refusals by number". The numbers are the table's own; no verdict is used to say them, and no refusal's name but in the receipt of zeros.
+-- "Refusals by number". The numbers are the table's own; no verdict and no refusal's name is used to say them.
 -- Assumes nothing.
-use Rattle.std.specs.Prelude.{◌≡◌, ◌≢◌, false, not, [], ◌∷◌, ℕ, eqb, Some}
+use Rattle.std.specs.Prelude.{◌≡◌, ◌≢◌, false, not, [], ◌∷◌, ℕ, eqb}
 use Rattle.rules.specs.Limits.{most_depth, most_count}
 use Rattle.rules.specs.Lists.{first}
 use Rattle.rules.specs.State.{size_of, State}
-use Rattle.rules.specs.Answers.{refusal_or_none}
 use Rattle.rules.specs.Shape.{size_fits, in_shape}
 use Rattle.rules.specs.SetUp.{plain_ring, fresh_rule}
 use Rattle.rules.specs.Act.{act}
 use Rattle.rules.specs.Receipt.{receipt, receipt_rule}
 use Rattle.rules.specs.declared.state.Action.{Action}
 use Rattle.rules.specs.declared.state.Action.TheVariants.{Begin, Write, Read}
-use Rattle.rules.specs.declared.state.Refusal.TheVariants.{Shape}
 use Rattle.rules.specs.declared.state.Receipt.{Receipt}
 
 -- ---- the table: the number that is listed, 0 where nothing is refused
@@ -32,9 +30,9 @@ listed_receipt r = first ((not (in_shape r), 1) ∷ []) 0
 abbrev pub listed_set_up : ℕ → ℕ → ℕ → ℕ
 listed_set_up pages slots mode = first ((not (size_fits (size_of pages slots mode)), 5) ∷ []) 0
 
--- "receipt all zero, not complete", with the refusal in it that has number 1
+-- "receipt all zero, not complete", with the number 1 in it
 abbrev pub zeros : Receipt
-zeros = receipt (Some Shape) 0 0 0 0 0 0 0 false
+zeros = receipt 1 0 0 0 0 0 0 0 false
 
 -- ---- demand 1
 
@@ -43,7 +41,7 @@ pub record AsListed (r : State) : Type 0 where
   pub refusals : (a : Action) → (act r a).tells.refusal ≡ listed r a
   -- "Comes back": "the same state"
   pub same : (a : Action) → listed r a ≢ 0 → (act r a).state ≡ r
-  pub receipt : refusal_or_none (receipt_rule r).refusal ≡ listed_receipt r
+  pub receipt : (receipt_rule r).refusal ≡ listed_receipt r
   pub zero : listed_receipt r ≢ 0 → receipt_rule r ≡ zeros
 
 -- of a set-up

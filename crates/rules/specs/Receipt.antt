@@ -1,16 +1,16 @@
 -- The receipt.
 -- Assumes nothing.
-use Rattle.std.specs.Prelude.{◌≡◌, Bool, true, false, cond, ℕ, ◌+◌, ◌-◌, ◌≤◌, eqb, Option, Some, None}
+use Rattle.std.specs.Prelude.{◌≡◌, Bool, true, false, cond, ℕ, ◌+◌, ◌-◌, ◌≤◌, eqb}
 use Rattle.rules.specs.Limits.{most_count}
+use Rattle.rules.specs.Answers.{refusal_number}
 use Rattle.rules.specs.Shape.{in_shape}
 use Rattle.rules.specs.State.{State}
 use Rattle.rules.specs.declared.state.Counts.{Counts}
-use Rattle.rules.specs.declared.state.Refusal.{Refusal}
 use Rattle.rules.specs.declared.state.Refusal.TheVariants.{Shape}
 use Rattle.rules.specs.declared.state.Receipt.{Receipt}
 
--- the refusal, the seven counts in the paper's order, and complete
-abbrev pub receipt : Option Refusal → ℕ → ℕ → ℕ → ℕ → ℕ → ℕ → ℕ → Bool → Receipt
+-- the refusal's number, the seven counts in the paper's order, and complete
+abbrev pub receipt : ℕ → ℕ → ℕ → ℕ → ℕ → ℕ → ℕ → ℕ → Bool → Receipt
 receipt refusal begun taken handed overwritten dropped waiting «open» complete =
     record {
       refusal = refusal;
@@ -39,18 +39,18 @@ complete c = eqb c.begun c.handed
 -- "Begun, taken, handed, overwritten, dropped; waiting ...; open ..."
 abbrev pub receipt_of : Counts → Receipt
 receipt_of c =
-    receipt None c.begun c.taken c.handed c.overwritten c.dropped (waiting c) (uncommitted c) (complete c)
+    receipt 0 c.begun c.taken c.handed c.overwritten c.dropped (waiting c) (uncommitted c) (complete c)
 
 -- refusal 1: "receipt all zero, not complete"
 abbrev pub refused_receipt : Receipt
-refused_receipt = receipt (Some Shape) 0 0 0 0 0 0 0 false
+refused_receipt = receipt (refusal_number Shape) 0 0 0 0 0 0 0 false
 
 abbrev pub receipt_rule : State → Receipt
 receipt_rule r = cond (in_shape r) (receipt_of r.counts) refused_receipt
 
 -- "A fresh ring is complete, 0 of 0."
 abbrev pub fresh_receipt : Receipt
-fresh_receipt = receipt None 0 0 0 0 0 0 0 true
+fresh_receipt = receipt 0 0 0 0 0 0 0 0 true
 
 -- ---- where the readings begun are: a receipt adds up
 
@@ -72,8 +72,8 @@ pub record AddsUp (r : Receipt) : Type 0 where
   pub begun : r.handed + lost r + remaining r ≡ r.begun
   pub taken : r.handed + r.overwritten + r.waiting + r.«open» ≡ r.taken
   pub small : r.begun ≤ most_count
-  pub complete : r.refusal ≡ None → r.complete ≡ true → lost r + remaining r ≡ 0
-  pub none : r.refusal ≡ None → lost r + remaining r ≡ 0 → r.complete ≡ true
+  pub complete : r.refusal ≡ 0 → r.complete ≡ true → lost r + remaining r ≡ 0
+  pub none : r.refusal ≡ 0 → lost r + remaining r ≡ 0 → r.complete ≡ true
 
 -- of every state, in shape or not
 abbrev pub ReceiptsAddUp : Type 0

@@ -134,10 +134,11 @@ pub enum Action {
     Read,
 }
 
-// The receipt. A refused receipt says why, and is else all zero and not complete.
+// The receipt. `refusal` is the number of the refusal, 0 for a receipt that is not refused; a refused receipt is all zero and not complete. A number and no
+// Option: the text of a receipt is of any number that stands here.
 #[derive(Clone, Copy, Debug, Default, PartialEq, Eq)]
 pub struct Receipt {
-    pub refusal: Option<Refusal>,
+    pub refusal: u32,
     pub begun: u64,
     pub taken: u64,
     pub handed: u64,

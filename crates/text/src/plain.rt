@@ -42,7 +42,7 @@ pub fn plain_receipt(name: &[u8], covers: Covers, size: Size, r: Receipt) -> boo
     name_line(Line::new(), "trace=", name)
         & key_line("bytes", covers.bytes)
         & key_line("read", read)
-        & key_line("refusal", covers.number())
+        & key_line("refusal", covers.refusal)
         & key_line("stop", covers.stop)
         & ring_keys(covers, size)
         & count_keys(r)

@@ -7,7 +7,7 @@ use crate::covers::{Covers, Extent};
 use crate::file_names::name_line;
 use crate::names::Refused;
 use crate::put::{Line, Many, print_line};
-use ring::{Receipt, Refusal, Ring};
+use ring::{Receipt, Ring};
 use rules::state::Size;
 use std::fmt;
 use std::fmt::{Display, Formatter, Write};
@@ -114,14 +114,15 @@ fn verdict(r: Receipt) -> bool {
 }
 
 // A last line that is no statement, after a refusal.
-fn refused_line(why: Refusal, what: &str) -> bool {
-    print_line(format_args!("    Refused {}: {what}", Refused(why.number())))
+fn refused_line(refusal: u32, what: &str) -> bool {
+    print_line(format_args!("    Refused {}: {what}", Refused(refusal)))
 }
 
 // How far a refused trace goes, and what is said up to there.
-fn partial_lines(r: Receipt, stop: u64, why: Refusal) -> bool {
+fn partial_lines(r: Receipt, covers: Covers) -> bool {
+    let stop = covers.stop;
     print_line(format_args!("    As far as byte {stop}: {}", Shares(r)))
-        & refused_line(why, "no statement about the day after that")
+        & refused_line(covers.refusal, "no statement about the day after that")
 }
 
 // ---- the receipts
@@ -139,8 +140,8 @@ pub fn receipt(size: Size, r: Receipt) -> bool {
     let nothing = "no statement about any reading; all counts are 0, not complete";
     heading()
         & match r.refusal {
-            None => whole_lines(size, r),
-            Some(why) => refused_line(why, nothing),
+            0 => whole_lines(size, r),
+            refusal => refused_line(refusal, nothing),
         }
 }
 
@@ -153,20 +154,20 @@ fn covers_lines(name: &[u8], covers: Covers) -> bool {
 
 // The receipt of a trace, or of what was read of it.
 pub fn trace_receipt(name: &[u8], covers: Covers, size: Size, r: Receipt) -> bool {
-    covers_lines(name, covers)
-        & match covers.refusal {
-            None => whole_lines(size, r),
-            Some(why) if covers.has_ring() => {
-                ring_line(size)
-                    & count_lines(r, "each begun before the damage is accounted for")
-                    & partial_lines(r, covers.stop, why)
-            }
-            Some(why) => {
-                print_line("    ring      none was set up")
-                    & count_lines(r, "no reading was begun in what was read")
-                    & refused_line(why, "no statement about the day")
-            }
-        }
+    let good = covers_lines(name, covers);
+    if covers.is_whole() {
+        whole_lines(size, r) & good
+    } else if covers.has_ring() {
+        ring_line(size)
+            & count_lines(r, "each begun before the damage is accounted for")
+            & partial_lines(r, covers)
+            & good
+    } else {
+        print_line("    ring      none was set up")
+            & count_lines(r, "no reading was begun in what was read")
+            & refused_line(covers.refusal, "no statement about the day")
+            & good
+    }
 }
 
 // What stands for the receipt of a file that can't be read.

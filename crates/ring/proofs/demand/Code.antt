@@ -1,7 +1,7 @@
 -- Demands 1 and 3 of the code. Demand 1 is that of the rules (`demand-1`), read off each function's promise. Demand 3: however a run begins (Start),
 -- its calls are single actions (Singly), and these are a run of the rules (Runs). That there are such runs: CodeRuns. Assumes nothing.
 use mathlib.Core.Path.{refl, ap, ◌∙◌}
-use Rattle.rules.specs.Answers.{Outcome, refusal_or_none}
+use Rattle.rules.specs.Answers.{Outcome}
 use Rattle.rules.specs.Listed.{listed}
 use Rattle.ring.specs.Ring.{state_of}
 use Rattle.ring.specs.Code.{StepAsListed, CodeDemand1, NoAction, CodeDemand3}
@@ -32,7 +32,7 @@ code-demand-1 =
       write = λ r s g. step-listed r action.Write s g;
       read = λ r s g. step-listed r action.Read s g;
       act = step-listed;
-      receipt = λ r c g. ap (λ (c : Receipt). refusal_or_none c.refusal) g ∙ (demand-1.states (state_of r)).receipt;
+      receipt = λ r c g. ap (λ (c : Receipt). c.refusal) g ∙ (demand-1.states (state_of r)).receipt;
       zero = λ r c g n. g ∙ (demand-1.states (state_of r)).zero n;
       set_up = λ pages slots mode s g. ap (λ (o : Outcome). o.tells.refusal) g ∙ (demand-1.set_ups pages slots mode).refusal;
       plain = λ pages slots mode s g n. ap (λ (o : Outcome). o.state) g ∙ (demand-1.set_ups pages slots mode).plain n;
