@@ -1,5 +1,6 @@
 // What a line of a text of actions says: its words, parted by blanks, up to a comment.
 use crate::write::Why;
+use files::is_word;
 use ring::{Action, Ring};
 use rules::state::Size;
 use std::str::from_utf8;
@@ -23,29 +24,56 @@ fn number_of(word: &[u8]) -> Result<u32, Why> {
 
 // The mode that a word is, by its name or its number.
 fn mode_of(word: &[u8]) -> Result<u32, Why> {
-    match word {
-        b"overwrite" => Ok(Ring::OVERWRITE),
-        b"stop" => Ok(Ring::STOP),
-        _ => number_of(word),
+    if is_word(word, b"overwrite") {
+        Ok(Ring::OVERWRITE)
+    } else if is_word(word, b"stop") {
+        Ok(Ring::STOP)
+    } else {
+        number_of(word)
+    }
+}
+
+fn is_blank(b: u8) -> bool {
+    matches!(b, b' ' | b'\t' | b'\r')
+}
+
+// What is left of a line to be read. No `split`, which would make a part for each blank of a run: they are passed over together.
+#[derive(Clone, Copy)]
+struct Words<'a> {
+    left: &'a [u8],
+}
+
+impl<'a> Words<'a> {
+    // The next word, or none where blanks alone are left.
+    fn next(&mut self) -> Option<&'a [u8]> {
+        let from = self.left.iter().position(|b| !is_blank(*b))?;
+        let word = &self.left[from..];
+        let end = word.iter().position(|b| is_blank(*b)).unwrap_or(word.len());
+        self.left = &word[end..];
+        Some(&word[..end])
     }
 }
 
 // What a line says, up to its comment: nothing where it has no word.
 pub fn line_says(line: &[u8]) -> Result<Option<Said>, Why> {
+    // at once, and not by looking for a comment and a word: a text may have a million empty lines
+    if line.is_empty() {
+        return Ok(None);
+    }
     let end = line.iter().position(|b| *b == b'#').unwrap_or(line.len());
-    let mut words = line[..end]
-        .split(|b| matches!(*b, b' ' | b'\t' | b'\r'))
-        .filter(|word| !word.is_empty());
+    let mut words = Words { left: &line[..end] };
     let Some(first) = words.next() else {
         return Ok(None);
     };
     // as many words more as a line has, and one
     let more = [words.next(), words.next(), words.next(), words.next()];
-    let said = match (first, more) {
-        (b"begin", [Some(value), None, ..]) => Said::Act(Action::Begin(number_of(value)?)),
-        (b"write", [None, ..]) => Said::Act(Action::Write),
-        (b"read", [None, ..]) => Said::Act(Action::Read),
-        (b"fresh", [Some(pages), Some(slots), Some(mode), None]) => {
+    let said = match more {
+        [Some(value), None, ..] if is_word(first, b"begin") => {
+            Said::Act(Action::Begin(number_of(value)?))
+        }
+        [None, ..] if is_word(first, b"write") => Said::Act(Action::Write),
+        [None, ..] if is_word(first, b"read") => Said::Act(Action::Read),
+        [Some(pages), Some(slots), Some(mode), None] if is_word(first, b"fresh") => {
             Said::Fresh(Size {
                 pages: number_of(pages)?,
                 slots: number_of(slots)?,

@@ -1,2 +1,3 @@
--- What the program tells at its end.
+-- Which form a word names, and what the program tells at its end.
+pub mod Forms
 pub mod Totals

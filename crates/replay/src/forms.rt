@@ -1,6 +1,10 @@
 // A trace in each of the forms: text, csv, receipt and plain.
+ghost use Rattle.std.specs.Prelude.{◌≡◌};
+ghost use Rattle.replay.specs.Forms.{form_named};
+
 use crate::print::action_lines;
 use crate::totals::{Kind, Totals};
+use files::is_word;
 use ring::{Answer, Receipt};
 use rules::state::Size;
 use text::Covers;
@@ -116,14 +120,22 @@ impl<'a> Told<'a> {
 
 impl Form {
     // The form that a word names.
-    pub fn named(name: &[u8]) -> Option<Form> {
-        match name {
-            b"text" => Some(Form::Text),
-            b"csv" => Some(Form::Csv),
-            b"receipt" => Some(Form::Receipt),
-            b"plain" => Some(Form::Plain),
-            _ => None,
+    pub fn named(name: &[u8]) -> Option<Form>
+        ensures { result ≡ form_named name.now }
+    {
+        if is_word(name, b"text") {
+            return Some(Form::Text);
         }
+        if is_word(name, b"csv") {
+            return Some(Form::Csv);
+        }
+        if is_word(name, b"receipt") {
+            return Some(Form::Receipt);
+        }
+        if is_word(name, b"plain") {
+            return Some(Form::Plain);
+        }
+        None
     }
 
     // A trace that was read.
