@@ -34,13 +34,20 @@ place-within len at = min-le_right at len
 
 -- ---- the header
 
--- what it says is a set-up that a ring accepts, or a refusal that is not that of an action
+-- a refusal of the header is one of its own
+abbrev OfHeader : Refusal → Type 0
+OfHeader refusal.Mark = Unit {0}
+OfHeader refusal.Version = Unit {0}
+OfHeader refusal.Sizes = Unit {0}
+OfHeader _ = ⊥
+
+-- what it says is a set-up that a ring accepts, or such a refusal
 abbrev pub Accepts : Result Size Refusal → Type 0
 Accepts (Ok size) = size_fits size ≡ true
-Accepts (Err why) = why ≡ refusal.Action → ⊥
+Accepts (Err why) = OfHeader why
 
 set-up-accepts : (pages slots mode : ℕ) → Accepts (set_up pages slots mode)
-set-up-accepts pages slots mode = by_cond Accepts (size_fits (size_of pages slots (mode_of mode))) (λ e. e) (λ e q. cc)
+set-up-accepts pages slots mode = by_cond Accepts (size_fits (size_of pages slots (mode_of mode))) (λ e. e) (λ e. tt)
 
 -- what holds beside each test of a list, and otherwise, holds of the first that passes
 abbrev Each : (Result Size Refusal → Type 0) → List (Bool × Result Size Refusal) → Type 0
@@ -53,7 +60,7 @@ first_holds P (row ∷ rows) otherwise hs h = by_cond P row.0 (λ e. hs.0) (λ e
 
 pub header-accepts : (bytes : List ℕ) → Accepts (header_of bytes)
 header-accepts bytes =
-    first_holds Accepts (header_rows bytes) (set_up_in bytes) ((λ q. cc), ((λ q. cc), ((λ q. cc), ((λ q. cc), tt))))
+    first_holds Accepts (header_rows bytes) (set_up_in bytes) (tt, (tt, (tt, (tt, tt))))
     (set-up-accepts (byte_at bytes pages_at) (byte_at bytes slots_at) (byte_at bytes mode_at))
 
 pub ready-fits : (bytes : List ℕ) {pages slots mode : ℕ} → header_of bytes ≡ Ok (size_of pages slots mode) → size_fits (size_of pages slots mode) ≡ true
@@ -120,8 +127,11 @@ module _ (bytes : List ℕ) (at : ℕ) where
             (λ n. let q : answer.Refused refusal.Action ≡ answer.Accepted = rw (ne_eqb d.stop (length bytes) n) at h in cc);
       }
 
+  header-not-action : (why : Refusal) → OfHeader why → why ≡ refusal.Action → ⊥
+  header-not-action why h e = subst OfHeader e h
+
   by_right : (buffer : List ℕ) (h : Result Size Refusal) → Accepts h → NineRight bytes (replayed_by h bytes at buffer)
-  by_right buffer (Err why) ok = refused-right why (refused_replay why) ok refl
+  by_right buffer (Err why) ok = refused-right why (refused_replay why) (header-not-action why ok) refl
   by_right buffer (Ok size) ok =
       by_cond (NineRight bytes) (buffer_fits (walk_actions bytes at) (length buffer))
       (λ e. walked-right (fresh_ring size))
