@@ -21,6 +21,7 @@ use Rattle.rules.specs.declared.moves.Move.TheVariants.{Become, Reserve, Drop, D
 use Rattle.rules.specs.declared.moves.Fetch.{Fetch}
 use Rattle.rules.specs.declared.moves.Fetch.TheVariants as fetch
 use Rattle.ring.specs.declared.pieces.Stores.{Stores}
+use Rattle.ring.specs.declared.pieces.Stores.TheVariants as stores
 use Rattle.rules.proofs.state.Laws.{slot_index-room}
 use Rattle.rules.specs.declared.state.ReaderPhase.{ReaderPhase}
 
@@ -95,3 +96,17 @@ module _ (reader : PageNo) (words : List ℕ) where
   read-stores-precondition (fetch.Prepare p q) h le = le
   read-stores-precondition (fetch.Swap p q) h le = (h, le)
   read-stores-precondition fetch.Miss h le = tt
+
+  -- of the five kinds of stores a Read makes a word's or a taken page's, and otherwise none
+  pub read-stores-same :
+      (f : Fetch) →
+      ((p : PageNo) (w : ℕ) → read_stores f reader words ≡ stores.Word p w → ⊥) →
+      ((p : PageNo) (w : ℕ) (old : PageNo) → read_stores f reader words ≡ stores.Take p w old → ⊥) →
+      read_stores f reader words ≡ stores.Same
+  read-stores-same fetch.Event no-word no-take = refl
+  read-stores-same fetch.Empty no-word no-take = refl
+  read-stores-same fetch.Busy no-word no-take = refl
+  read-stores-same (fetch.Find p q) no-word no-take = refl
+  read-stores-same (fetch.Prepare p q) no-word no-take = absurd (no-word _ _ refl)
+  read-stores-same (fetch.Swap p q) no-word no-take = absurd (no-take _ _ _ refl)
+  read-stores-same fetch.Miss no-word no-take = refl

@@ -1,13 +1,54 @@
--- An answer is had back from its numbers, so that two answers never have the same; and the values among them are those that the answer tells.
--- Assumes nothing.
+-- The code of an answer is that of one of the kinds; the answer is had back from its numbers, so that two answers never have the same; and the values among them are
+-- those that the answer tells. Assumes nothing.
 use mathlib.Core.Path.{◌≡◌, refl}
 use mathlib.Core.List.{[], ◌∷◌}
+use Prim.Native.Nat.{◌<◌}
+use native.Mathlib.Omega.{arith}
 use lib.ListN.{length, take}
 use Rattle.rules.specs.Answers.{told}
-use Rattle.rules.specs.Codes.{numbers_of, answer_of}
+use Rattle.rules.specs.Codes.{kinds, refusal_code, numbers_of, answer_of}
+use Rattle.rules.specs.declared.state.Refusal.{Refusal}
 use Rattle.rules.specs.declared.state.Refusal.TheVariants.{Shape, Depth, Nobody, Worn, SetUp, Mark, Version, Sizes, Action, Room}
 use Rattle.rules.specs.declared.state.Answer.{Answer}
 use Rattle.rules.specs.declared.state.Answer.TheVariants.{Accepted, Begun, Reserved, Looked, Dropped, Marked, Shared, Retry, Promoted, Standing, Cleared, Pushed, Passed, Filled, Committed, Pending, Event, Empty, Found, Busy, Prepared, Swapped, Missed, Refused}
+
+pub refusal-below : (why : Refusal) → refusal_code why < kinds
+refusal-below Shape = omega arith
+refusal-below Depth = omega arith
+refusal-below Nobody = omega arith
+refusal-below Worn = omega arith
+refusal-below SetUp = omega arith
+refusal-below Mark = omega arith
+refusal-below Version = omega arith
+refusal-below Sizes = omega arith
+refusal-below Action = omega arith
+refusal-below Room = omega arith
+
+pub code_below : (a : Answer) → (numbers_of a).code < kinds
+code_below Accepted = omega arith
+code_below (Begun _) = omega arith
+code_below (Reserved _) = omega arith
+code_below Looked = omega arith
+code_below Dropped = omega arith
+code_below Marked = omega arith
+code_below Shared = omega arith
+code_below Retry = omega arith
+code_below Promoted = omega arith
+code_below Standing = omega arith
+code_below Cleared = omega arith
+code_below Pushed = omega arith
+code_below Passed = omega arith
+code_below Filled = omega arith
+code_below (Committed _) = omega arith
+code_below Pending = omega arith
+code_below (Event _ _) = omega arith
+code_below Empty = omega arith
+code_below Found = omega arith
+code_below Busy = omega arith
+code_below Prepared = omega arith
+code_below Swapped = omega arith
+code_below Missed = omega arith
+code_below (Refused why) = omega (arith, refusal-below why)
 
 pub answer_back : (a : Answer) → answer_of (numbers_of a) ≡ a
 answer_back Accepted = refl

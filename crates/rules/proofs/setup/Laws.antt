@@ -7,6 +7,9 @@ use lib.Dec.{eqb, ltb}
 use Rattle.rules.specs.SetUp.{fresh_next, fresh_flag}
 use Rattle.rules.proofs.Lists.{by_bool, by_cond}
 
+pub fresh_next-most : (n i : ℕ) → fresh_next n i ≤ i + 1
+fresh_next-most n i = by_cond (λ (k : ℕ). k ≤ i + 1) (ltb (i + 1) n) (λ e. omega arith) (λ e. omega arith)
+
 pub fresh_next-pages : (n i : ℕ) → fresh_next n i ≤ n
 fresh_next-pages n i =
     by_bool (ltb (i + 1) n)

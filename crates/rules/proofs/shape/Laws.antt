@@ -106,6 +106,12 @@ held-fits p slot s h =
     let e = each (held_tests p slot s) h in
     (leb-true _ _ e.0, ltb-true _ _ e.1.0)
 
+-- what it tells that the counts fit: the differences of a receipt are not below 0
+pub counts-agree : (c : Counts) → counts_fit c ≡ true → (c.handed + c.overwritten ≤ c.committed) × (c.committed ≤ c.taken)
+counts-agree c h =
+    let e = each (agree_tests c) (and_parts (counts_small c) (counts_agree c) h).1 in
+    (leb-true _ _ e.0, leb-true _ _ e.1.0)
+
 module _ (r : State) where
   pub in-shape : in_shape r ≡ true → InShape r
   unfolding in_shape layout_fits
