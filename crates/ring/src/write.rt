@@ -174,6 +174,13 @@ impl Ring {
     pub fn write(self) -> Step
         ensures { outcome result ≡ write_rule (state_of self) }
     {
+        // At once, with the ring as it came: made where it lies, it would be copied there and back for nothing.
+        if self.depth == 0 && self.fits() {
+            return Step {
+                ring: self,
+                answer: Answer::Refused(Refusal::Nobody),
+            };
+        }
         self.act(Action::Write)
     }
 }
