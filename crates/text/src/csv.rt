@@ -1,5 +1,5 @@
 // Actions and their answers as comma-separated values, for a table.
-use crate::names::{Kind, Values};
+use crate::names::Values;
 use crate::put::{Line, print_line};
 use ring::{Action, Numbers};
 
@@ -16,7 +16,7 @@ pub fn csv_line(index: u64, offset: u64, action: Action, n: Numbers) -> bool {
         Action::Write => write!(line, "Write,,"),
         Action::Read => write!(line, "Read,,"),
     }
-    write!(line, "{}", Kind(n.code));
+    line.kind(n.code);
     match Values::from(n) {
         Values::None => write!(line, ",,"),
         Values::One(first) => write!(line, ",{first},"),

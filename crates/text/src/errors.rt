@@ -20,7 +20,7 @@ pub fn error_name(name: &[u8]) {
 pub fn error_refusal(name: &[u8], covers: Covers) {
     let mut line = start(name);
     write!(line, ": {}", RefusedTrace(covers));
-    line.end();
+    line.print();
 }
 
 // What is wrong with a file as a whole.
@@ -28,7 +28,7 @@ pub fn error_line(name: &[u8], reason: &[u8]) {
     let mut line = start(name);
     write!(line, ": ");
     line.bytes(reason);
-    line.end();
+    line.print();
 }
 
 // What is wrong with a line of a file, by the line's number.
@@ -36,5 +36,5 @@ pub fn error_at_line(name: &[u8], n: u64, reason: &[u8]) {
     let mut line = start(name);
     write!(line, ": line {n}: ");
     line.bytes(reason);
-    line.end();
+    line.print();
 }

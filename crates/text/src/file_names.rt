@@ -1,49 +1,45 @@
 // A file's name as it is printed. A name is any bytes: a control character, what is no UTF-8, what turns a line round and a space at an end are escaped,
 // so that a name is never taken for a line of the text, and a long name goes on in the next line.
-ghost use Rattle.std.specs.Prelude.{◌≡◌, ◌≤◌};
+ghost use Rattle.std.specs.Prelude.{◌≡◌, ◌≤◌, ◌<◌, length};
 ghost use Rattle.text.specs.FileNames.{is_input};
 
 use crate::put::Line;
-use std::fmt;
-use std::fmt::{Display, Formatter, Write};
 
 // The most bytes of a line that has a name.
 const WIDTH: usize = 100;
 
-// What of a name is not parted: a character that is printed as it stands, a backslash, or a byte that is escaped.
-#[derive(Clone, Copy)]
-enum Piece {
-    Shown(char),
-    Backslash,
-    Escaped(u8),
+const DIGITS: [u8; 16] = *b"0123456789abcdef";
+
+// A hexadecimal digit, of a number below 16.
+fn digit(n: u8) -> u8
+    requires { n < 16 }
+{
+    DIGITS[usize::from(n)]
 }
 
-impl Piece {
-    // How many bytes are printed.
-    fn width(self) -> usize
-        ensures { result ≤ 4 }
-    {
-        match self {
-            Piece::Shown(c) => c.len_utf8(),
-            Piece::Backslash => 2,
-            Piece::Escaped(_) => 4,
-        }
+// Whether a byte is a character that is printed as it stands.
+fn is_plain(b: u8) -> bool {
+    matches!(b, 0x20..=0x7e) && b != b'\\'
+}
+
+// How many bytes at the start of what is left of a name are one character that is printed as it stands, and 0 where the byte there is escaped: it is a
+// control character's, or no character's in UTF-8, or that of one that ends a line or turns its direction (U+2028 to U+202E, U+2066 to U+2069).
+fn shown(left: &[u8]) -> usize
+    ensures part { result ≤ length left.now }
+    ensures most { result ≤ 4 }
+{
+    match left {
+        [0x20..=0x7e, ..] => 1,
+        [0xc2, 0xa0..=0xbf, ..] | [0xc3..=0xdf, 0x80..=0xbf, ..] => 2,
+        [0xe0, 0xa0..=0xbf, 0x80..=0xbf, ..] => 3,
+        [0xe2, 0x80, 0xa8..=0xae, ..] | [0xe2, 0x81, 0xa6..=0xa9, ..] => 0,
+        [0xed, 0x80..=0x9f, 0x80..=0xbf, ..] => 3,
+        [0xe1..=0xec | 0xee..=0xef, 0x80..=0xbf, 0x80..=0xbf, ..] => 3,
+        [0xf0, 0x90..=0xbf, 0x80..=0xbf, 0x80..=0xbf, ..] => 4,
+        [0xf1..=0xf3, 0x80..=0xbf, 0x80..=0xbf, 0x80..=0xbf, ..] => 4,
+        [0xf4, 0x80..=0x8f, 0x80..=0xbf, 0x80..=0xbf, ..] => 4,
+        _ => 0,
     }
-}
-
-impl Display for Piece {
-    fn fmt<W: Write>(&self, f: &mut Formatter<W>) -> fmt::Result {
-        match self {
-            Piece::Shown(c) => write!(f, "{c}"),
-            Piece::Backslash => f.write_str("\\\\"),
-            Piece::Escaped(b) => write!(f, "\\x{b:02x}"),
-        }
-    }
-}
-
-// Whether a character ends a line, turns its direction or is another control character.
-fn controls(c: char) -> bool {
-    c.is_control() || matches!(c, '\u{2028}'..='\u{202e}' | '\u{2066}'..='\u{2069}')
 }
 
 // Whether a name stands for standard input.
@@ -70,7 +66,7 @@ impl Line {
         let space = b" ";
         let name = match name.strip_prefix(space) {
             Some(after) => {
-                self.escaped(space);
+                self.piece(b' ', b"");
                 after
             }
             None => name,
@@ -78,50 +74,65 @@ impl Line {
         match name.strip_suffix(space) {
             Some(before) => {
                 self.inside(before);
-                self.escaped(space);
+                self.piece(b' ', b"");
             }
             None => self.inside(name),
         }
     }
 
-    // What of a name is between the spaces at its ends.
+    // What of a name is between the spaces at its ends. By bytes, and not by the library's characters, which would read each part of a name twice.
     fn inside(&mut self, name: &[u8]) {
-        for chunk in name.utf8_chunks() {
-            self.characters(chunk.valid());
-            self.escaped(chunk.invalid());
+        let mut left = name;
+        while let [first, ..] = left {
+            // as many plain bytes as have room at once, or one character
+            let plain = if is_plain(*first) {
+                self.plain(left)
+            } else {
+                0
+            };
+            let n = match plain {
+                0 => {
+                    let character = &left[..shown(left)];
+                    self.piece(*first, character);
+                    character.len().max(1)
+                }
+                n => n,
+            };
+            left = &left[n..];
         }
     }
 
-    fn characters(&mut self, text: &str) {
-        for c in text.chars() {
-            self.character(c);
-        }
+    // As many as have room of the plain bytes at the start of what is left of a name, and how many: they are put together.
+    fn plain(&mut self, left: &[u8]) -> usize
+        ensures { result ≤ length left.now }
+    {
+        let room = left.len().min(WIDTH.saturating_sub(self.len()));
+        let n = left[..room]
+            .iter()
+            .position(|b| !is_plain(*b))
+            .unwrap_or(room);
+        self.bytes(&left[..n]);
+        n
     }
 
-    fn character(&mut self, c: char) {
-        if controls(c) {
-            let mut bytes = [0; 4];
-            self.escaped(c.encode_utf8(&mut bytes).as_bytes());
-        } else if c == '\\' {
-            self.piece(Piece::Backslash);
-        } else {
-            self.piece(Piece::Shown(c));
-        }
-    }
-
-    // Bytes that are escaped.
-    fn escaped(&mut self, bytes: &[u8]) {
-        for b in bytes {
-            self.piece(Piece::Escaped(*b));
-        }
-    }
-
-    // A piece, with room made for it.
-    fn piece(&mut self, piece: Piece) {
-        if WIDTH < self.len() + piece.width() {
+    // A character that is printed as it stands, or, where there is none, a byte that is escaped, with room made for it. As bytes, and not by `write!`: a
+    // name may have many.
+    fn piece(&mut self, first: u8, character: &[u8])
+        requires { length character.now ≤ 4 }
+    {
+        let width = match character {
+            [] => 4,
+            [b'\\'] => 2,
+            _ => character.len(),
+        };
+        if WIDTH < self.len() + width {
             self.make_room();
         }
-        write!(self, "{piece}");
+        match character {
+            [] => self.few([b'\\', b'x', digit(first / 16), digit(first % 16)]),
+            [b'\\'] => self.few(*b"\\\\"),
+            _ => self.bytes(character),
+        }
     }
 }
 

@@ -1,7 +1,6 @@
 // Headings, and lines of two columns about an action, a ring or a trace. Each function that prints answers whether it could.
 use crate::covers::{Covers, RefusedTrace};
-use crate::names::Answered;
-use crate::put::{Line, Many, print_line, two_columns, whole_line};
+use crate::put::{Line, Many, print_line, whole_line};
 use ring::{Action, Answer, Numbers, answer_numbers};
 use std::fmt::Display;
 
@@ -34,7 +33,9 @@ pub fn number_line(text: &[u8], n: u64) -> bool {
 
 // An answer, under a first column of the caller's.
 pub fn answer_line(text: &[u8], a: Answer) -> bool {
-    value_line(text, Answered(answer_numbers(a)))
+    let mut line = Line::labelled(text);
+    line.answer(answer_numbers(a));
+    line.print()
 }
 
 // A digest, with a first column that has a number in it.
@@ -51,8 +52,11 @@ pub fn digest_line(before: &[u8], n: u64, after: &[u8], digest: u32) -> bool {
 
 // A set-up and its answer. Three numbers and no Size: they are as they were asked for, and may be refused.
 pub fn fresh_line(pages: u32, slots: u32, mode: u32, a: Answer) -> bool {
-    let set_up = format_args!("fresh({pages}, {slots}, {mode})");
-    two_columns(set_up, Answered(answer_numbers(a)))
+    let mut line = Line::new();
+    write!(line, "  fresh({pages}, {slots}, {mode})");
+    line.pad();
+    line.answer(answer_numbers(a));
+    line.print()
 }
 
 // An action and its answer.
@@ -62,12 +66,15 @@ pub fn action_line(action: Action, a: Answer) -> bool {
 
 // An action and its answer, where the answer was kept as its numbers.
 pub fn numbers_line(action: Action, n: Numbers) -> bool {
-    let answered = Answered(n);
+    let mut line = Line::new();
     match action {
-        Action::Begin(value) => two_columns(format_args!("Begin {value}"), answered),
-        Action::Write => two_columns("Write", answered),
-        Action::Read => two_columns("Read", answered),
+        Action::Begin(value) => write!(line, "  Begin {value}"),
+        Action::Write => line.bytes(b"  Write"),
+        Action::Read => line.bytes(b"  Read"),
     }
+    line.pad();
+    line.answer(n);
+    line.print()
 }
 
 // The words of pages 0 to N, as far as there are any: no function here asks that a ring is in shape.

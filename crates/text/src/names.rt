@@ -1,12 +1,22 @@
 // Answers by name.
+use crate::put::Line;
 use ring::Numbers;
 use ring::codes::LAST_KIND;
 use std::fmt;
 use std::fmt::{Display, Formatter, Write};
 
-// The names of the refusals, from number 1 on.
+// The refusals from number 1 on, each with its number and name.
 const REFUSALS: [&str; 10] = [
-    "SHAPE", "DEPTH", "NOBODY", "WORN", "SETUP", "MARK", "VERSION", "SIZES", "ACTION", "ROOM",
+    "1 SHAPE",
+    "2 DEPTH",
+    "3 NOBODY",
+    "4 WORN",
+    "5 SETUP",
+    "6 MARK",
+    "7 VERSION",
+    "8 SIZES",
+    "9 ACTION",
+    "10 ROOM",
 ];
 
 // The names of the kinds that are no refusal, by their codes.
@@ -36,33 +46,23 @@ const KINDS: [&str; 23] = [
     "Missed",
 ];
 
+// The words for a refusal that has a name.
+fn refusal_words(number: u32) -> Option<&'static str> {
+    match number {
+        0 => None,
+        _ => REFUSALS.get(number as usize - 1).copied(),
+    }
+}
+
 // A refusal: its number in the rules, and its name if it has one. A number and no Refusal, since it may come from an answer's code.
 #[derive(Clone, Copy)]
 pub(crate) struct Refused(pub u32);
 
 impl Display for Refused {
     fn fmt<W: Write>(&self, f: &mut Formatter<W>) -> fmt::Result {
-        let number = self.0;
-        let name = match number {
-            0 => None,
-            _ => REFUSALS.get(number as usize - 1),
-        };
-        match name {
-            Some(name) => write!(f, "{number} {name}"),
-            None => write!(f, "{number}"),
-        }
-    }
-}
-
-// The kind of an answer. A code and no Answer: an answer that was kept as its numbers is printed from them, and a tally counts by codes.
-#[derive(Clone, Copy)]
-pub(crate) struct Kind(pub u32);
-
-impl Display for Kind {
-    fn fmt<W: Write>(&self, f: &mut Formatter<W>) -> fmt::Result {
-        match KINDS.get(self.0 as usize) {
-            Some(name) => f.write_str(name),
-            None => write!(f, "refused {}", Refused(self.0 - LAST_KIND)),
+        match refusal_words(self.0) {
+            Some(words) => f.write_str(words),
+            None => write!(f, "{}", self.0),
         }
     }
 }
@@ -88,17 +88,33 @@ impl From<Numbers> for Values {
     }
 }
 
-// An answer from its numbers: its name, and in brackets the values that an answer of its kind has.
-#[derive(Clone, Copy)]
-pub(crate) struct Answered(pub Numbers);
+// Of an answer what has no values is put as bytes, and not by `write!`: a text has a line for each of many actions.
+impl Line {
+    // The kind of an answer. A code and no Answer: an answer that was kept as its numbers is printed from them, and a tally counts by codes.
+    pub(crate) fn kind(&mut self, code: u32) {
+        match KINDS.get(code as usize) {
+            Some(name) => self.bytes(name.as_bytes()),
+            None => {
+                self.bytes(b"refused ");
+                self.refusal(code - LAST_KIND);
+            }
+        }
+    }
 
-impl Display for Answered {
-    fn fmt<W: Write>(&self, f: &mut Formatter<W>) -> fmt::Result {
-        let kind = Kind(self.0.code);
-        match Values::from(self.0) {
-            Values::None => write!(f, "{kind}"),
-            Values::One(first) => write!(f, "{kind}({first})"),
-            Values::Two(first, second) => write!(f, "{kind}({first}, {second})"),
+    fn refusal(&mut self, number: u32) {
+        match refusal_words(number) {
+            Some(words) => self.bytes(words.as_bytes()),
+            None => write!(self, "{number}"),
+        }
+    }
+
+    // An answer from its numbers: its name, and in brackets the values that an answer of its kind has.
+    pub(crate) fn answer(&mut self, n: Numbers) {
+        self.kind(n.code);
+        match Values::from(n) {
+            Values::None => (),
+            Values::One(first) => write!(self, "({first})"),
+            Values::Two(first, second) => write!(self, "({first}, {second})"),
         }
     }
 }

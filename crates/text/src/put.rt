@@ -21,6 +21,9 @@ const SECOND: usize = 20;
 // Where a name goes on in the next line: where no other line begins, so that no part of it is taken for one.
 const ASIDE: usize = 14;
 
+// The spaces that a line is filled with, as many as it has room for: a part of them is put at once.
+const SPACES: [u8; ROOM] = [b' '; ROOM];
+
 // A line that is being put together.
 #[derive(Drop)]
 pub(crate) struct Line {
@@ -61,7 +64,7 @@ impl Line {
     // A line of two columns, with its first column.
     pub(crate) fn labelled(text: &[u8]) -> Line {
         let mut line = Line::new();
-        write!(line, "  ");
+        line.bytes(b"  ");
         line.bytes(text);
         line.pad();
         line
@@ -79,6 +82,11 @@ impl Line {
         let _ = self.bytes.try_extend_from_slice(&text[..n]);
     }
 
+    // A few bytes of a known number: all, or none where they don't fit. They are put as one, where `bytes` would count them.
+    pub(crate) fn few<const N: usize>(&mut self, text: [u8; N]) {
+        let _ = self.bytes.try_extend_from_slice(&text);
+    }
+
     // What is printed of a value, as `write!` asks for it: a line takes all, so there is nothing to answer.
     pub(crate) fn write_fmt<D: Display + Drop>(&mut self, value: D) {
         let _ = self.write(value);
@@ -86,9 +94,8 @@ impl Line {
 
     // Spaces up to a place, and none where the line is past it.
     pub(crate) fn fill(&mut self, end: usize) {
-        for _ in self.len()..end {
-            self.bytes(b" ");
-        }
+        let n = end.saturating_sub(self.len()).min(ROOM);
+        self.bytes(&SPACES[..n]);
     }
 
     // The spaces after the first column.
@@ -96,33 +103,39 @@ impl Line {
         self.fill(SECOND);
     }
 
+    // Writes what was put so far.
+    fn write_out(&mut self) {
+        self.good &= io::write_all(self.fd, self.bytes.as_slice());
+    }
+
     // Writes what was put so far, with no newline, and goes on at the start of the buffer.
     pub(crate) fn write_part(&mut self) {
-        self.good = io::write_all(self.fd, self.bytes.as_slice()) & self.good;
+        self.write_out();
         self.bytes.clear();
     }
 
-    // The newline, in the last place of the buffer where the line was cut, and the line written.
-    pub(crate) fn end(&mut self) {
+    // The newline, in the last place of the buffer where the line was cut.
+    fn newline(&mut self) {
         self.bytes.truncate(ROOM - 1);
         self.bytes(b"\n");
-        self.write_part();
     }
 
     // Makes room for more of a name.
     pub(crate) fn make_room(&mut self) {
         match self.aside {
             Some(place) => {
-                self.end();
+                self.newline();
+                self.write_part();
                 self.fill(place);
             }
             None => self.write_part(),
         }
     }
 
-    // Ends the line, and answers whether all of it was written.
-    pub(crate) fn print(mut self) -> bool {
-        self.end();
+    // Ends the line, and answers whether all of it was written. The line is lent, and not passed: it would be copied.
+    pub(crate) fn print(&mut self) -> bool {
+        self.newline();
+        self.write_out();
         self.good
     }
 }
@@ -138,15 +151,6 @@ impl Write for Line {
 pub(crate) fn print_line<D: Display + Drop>(text: D) -> bool {
     let mut line = Line::new();
     write!(line, "{text}");
-    line.print()
-}
-
-// A line of two columns that are values.
-pub(crate) fn two_columns<A: Display + Drop, B: Display + Drop>(first: A, second: B) -> bool {
-    let mut line = Line::new();
-    write!(line, "  {first}");
-    line.pad();
-    write!(line, "{second}");
     line.print()
 }
 

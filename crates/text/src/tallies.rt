@@ -2,8 +2,7 @@
 ghost use Rattle.std.specs.Prelude.{◌≡◌};
 ghost use Rattle.text.specs.Tallies.{no_answers, tallied};
 
-use crate::names::Kind;
-use crate::put::two_columns;
+use crate::put::Line;
 use ring::{Answer, answer_numbers};
 
 // How many kinds of answer there are, with each refusal as one of its own.
@@ -27,12 +26,22 @@ pub fn count_answer(counts: &mut Tally, answer: Answer)
     counts[code] = counts[code].wrapping_add(1);
 }
 
+// How often a kind of answer came.
+fn count_line(code: u32, count: u64) -> bool {
+    let mut line = Line::new();
+    line.bytes(b"  ");
+    line.kind(code);
+    line.pad();
+    write!(line, "{count}");
+    line.print()
+}
+
 // A line for each kind that came, and none for one that did not. A line after one that could not be written is tried all the same, so `all` would not do.
 pub fn tally(counts: &Tally) -> bool {
     let mut good = true;
     for (code, count) in (0..).zip(counts) {
         if *count != 0 {
-            good &= two_columns(Kind(code), *count);
+            good &= count_line(code, *count);
         }
     }
     good
