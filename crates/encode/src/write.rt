@@ -79,8 +79,20 @@ impl<'a> TraceBytes<'a> {
 // The trace of a text, in room for the longest one.
 pub fn write_text<'a>(text: &[u8], out: &'a mut [u8]) -> Result<&'a [u8], Fault> {
     let mut trace = TraceBytes { out, end: None };
-    for (number, line) in (1u64..).zip(text.split(|b| *b == b'\n')) {
-        trace.line(line).map_err(|why| Fault::Line(why, number))?;
+    let mut number: u64 = 0;
+    let mut left = text;
+    // A cursor, and no `split`, by which a million empty lines took twice the time.
+    while !left.is_empty() {
+        number = number.wrapping_add(1);
+        let end = left.iter().position(|b| *b == b'\n').unwrap_or(left.len());
+        trace
+            .line(&left[..end])
+            .map_err(|why| Fault::Line(why, number))?;
+        left = if end < left.len() {
+            &left[end + 1..]
+        } else {
+            &[]
+        };
     }
     let TraceBytes { out, end } = trace;
     let end = end.ok_or(Fault::Nothing)?;
